@@ -1,0 +1,17 @@
+pub mod Digits
+pub mod Bounds
+pub mod Ranges
+pub mod Wrapping
+pub mod Powers
+pub mod Widths
+pub mod Reading
+pub mod ReadingOnce
+pub mod RoundTrip
+pub mod Division
+pub mod Register
+pub mod Numbers
+pub mod Letters
+pub mod Groups
+pub mod PrincipalTexts
+pub mod TextLaws
+pub mod ArithLaws

@@ -1,0 +1,13 @@
+use Rattle.std.proofs.Common.{◌-ℤ◌}
+use mir.Syntax.{w128}
+use mir.Val.{SFits}
+use Rattle.std.proofs.lemmas.Int.{to_z-of_z}
+use Rattle.mo_num.proofs.Ranges.{fits_difference}
+use Rattle.mo_num.proofs.arith.sub.Goals as goal
+
+pub returns : goal.returns
+returns c =
+    let a : SFits w128 c.args.a = c.ranges.a in
+    let b : SFits w128 c.args.b = c.ranges.b in
+    let f : SFits w128 (c.args.a -ℤ c.args.b) = fits_difference c.args.kind _ _ c.requires.left c.requires.right in
+    simp (to_z-of_z, c.difference_trap.ensures) at c.bounded.ensures
