@@ -1,0 +1,4 @@
+pub mod LineLemmas
+pub mod MaskLemmas
+pub mod PlaceLemmas
+pub mod StoreLemmas

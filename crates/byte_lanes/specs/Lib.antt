@@ -1,0 +1,4 @@
+pub mod Ascii
+pub mod Difference
+pub mod Lines
+pub mod Mask
