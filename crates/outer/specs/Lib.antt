@@ -1,0 +1,5 @@
+pub mod Causes
+pub mod Names
+pub mod Sinks
+pub mod Plans
+pub mod Memory

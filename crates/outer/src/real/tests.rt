@@ -1,0 +1,110 @@
+use super::{RealFiles, RealSink};
+use crate::{Content, Files, OutsideFault, Sink};
+use std::io::{Error, ErrorKind, Write};
+use std::test::Fail;
+use std::{fs, io};
+
+const FOLDER: &str = "outer_real_test";
+
+const NAME: &str = "outer_real_test/a";
+
+const ABSENT: &str = "outer_real_test/absent";
+
+const NO_FOLDER: &str = "outer_real_test/absent/a";
+
+#[test]
+fn reads_and_writes_a_file(rt: HostRuntime) -> Result<(), Fail> {
+    let alloc = rt.alloc();
+    let _ = fs::remove_dir_all(&rt, FOLDER);
+    fs::create_dir(&rt, FOLDER)?;
+    let mut files = RealFiles::new(&rt);
+
+    assert_eq!(rt; files.write(NAME, b"longer"), Ok(()));
+    assert_eq!(rt; files.write(NAME, b"abc"), Ok(()));
+    for limit in [3, 4, u64::MAX] {
+        match files.read(alloc, NAME, limit) {
+            Ok(Content::Whole(bytes)) => {
+                assert_eq!(rt; bytes.as_slice(), b"abc".as_slice(), "within {limit}")
+            }
+            _ => panic!(rt; "within {limit}"),
+        }
+    }
+    for limit in [0, 2] {
+        assert!(rt;
+            matches!(files.read(alloc, NAME, limit), Ok(Content::TooLong)),
+            "within {limit}"
+        );
+    }
+    assert!(rt; matches!(files.read(alloc, ABSENT, 9), Ok(Content::Missing)));
+    assert_eq!(rt; (files.read_faults, files.write_faults), (0, 0));
+
+    assert!(rt; matches!(files.read(alloc, FOLDER, 9), Err(OutsideFault::Failed)));
+    assert_eq!(rt; files.write(FOLDER, b"abc"), Err(OutsideFault::Failed));
+    assert_eq!(rt; files.write(NO_FOLDER, b"abc"), Err(OutsideFault::Failed));
+    assert_eq!(rt; (files.read_faults, files.write_faults), (1, 2));
+
+    fs::remove_dir_all(&rt, FOLDER)?;
+    Ok(())
+}
+
+// What a writer does once it has no room.
+#[derive(Clone, Copy, Debug)]
+enum Full {
+    Fails,
+    TakesNothing,
+    FailsToFlush,
+}
+
+// A writer that takes two bytes at a time, until it has no room.
+#[derive(Drop)]
+struct Narrow {
+    taken: Vec<u8>,
+    room: usize,
+    full: Full,
+}
+
+impl Write for Narrow {
+    fn write(&mut self, buf: &[u8]) -> io::Result<usize> {
+        let count = buf.len().min(self.room).min(2);
+        if count == 0 && matches!(self.full, Full::Fails) {
+            return Err(Error::from(ErrorKind::BrokenPipe));
+        }
+        self.taken.extend_from_slice(&buf[..count])?;
+        self.room -= count;
+        Ok(count)
+    }
+
+    fn flush(&mut self) -> io::Result<()> {
+        match self.full {
+            Full::FailsToFlush => Err(Error::from(ErrorKind::StorageFull)),
+            Full::Fails | Full::TakesNothing => Ok(()),
+        }
+    }
+}
+
+#[test]
+fn a_writer_that_breaks_off_is_a_fault(rt: HostRuntime) -> Result<(), Fail> {
+    for (full, room, first, faults, taken) in [
+        (Full::Fails, 9, Ok(()), 1, b"piece tor".as_slice()),
+        (Full::TakesNothing, 9, Ok(()), 1, b"piece tor".as_slice()),
+        (
+            Full::FailsToFlush,
+            99,
+            Err(OutsideFault::Failed),
+            3,
+            b"piece torn".as_slice(),
+        ),
+    ] {
+        let mut sink = RealSink::new(Narrow {
+            taken: Vec::new(rt.alloc()),
+            room,
+            full,
+        });
+        assert_eq!(rt; sink.put(b"piece "), first, "{full:?}");
+        assert_eq!(rt; sink.put(b"torn"), Err(OutsideFault::Failed), "{full:?}");
+        assert_eq!(rt; sink.put(b""), first, "{full:?}");
+        assert_eq!(rt; sink.writer.taken.as_slice(), taken, "{full:?}");
+        assert_eq!(rt; sink.faults, faults, "{full:?}");
+    }
+    Ok(())
+}
