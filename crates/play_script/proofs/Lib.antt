@@ -1,0 +1,3 @@
+pub mod Decimals
+pub mod Hex
+pub mod Lines
