@@ -1,0 +1,10 @@
+//! Linear memories of pages, and committed copies of them that are kept by the pages that changed.
+#![tactic(auto)]
+
+mod committed;
+mod pages;
+#[cfg(test)]
+mod tests;
+
+pub use committed::Committed;
+pub use pages::{PAGE, Pages};
