@@ -1,0 +1,12 @@
+pub mod Code
+pub mod Tree
+pub mod Spelling
+pub mod Opcodes
+pub mod Binary
+pub mod Bounded
+pub mod Imports
+pub mod Valid
+pub mod Numeric
+pub mod Exec
+pub mod Frames
+pub mod Load
