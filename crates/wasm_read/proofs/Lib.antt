@@ -1,0 +1,15 @@
+pub mod Exact
+pub mod Numbers
+pub mod Names
+pub mod Loops
+pub mod Customs
+pub mod Choices
+pub mod Table
+pub mod Ops
+pub mod Nesting
+pub mod Expressions
+pub mod Vectors
+pub mod Parts
+pub mod Skipping
+pub mod Slots
+pub mod Whole

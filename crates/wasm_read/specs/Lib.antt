@@ -1,0 +1,5 @@
+pub mod Fields
+pub mod Shapes
+pub mod Codes
+pub mod Parts
+pub mod Sections

@@ -1,0 +1,22 @@
+//! Reads modules from their bytes.
+#![tactic(auto)]
+
+mod code;
+#[cfg(test)]
+mod each_test;
+mod expression;
+mod fault;
+mod instruction;
+mod laws;
+mod number;
+mod part;
+mod reading;
+mod section;
+mod shape;
+#[cfg(test)]
+mod tests;
+mod vector;
+
+pub use fault::ReadFault;
+pub use laws::{one_module, read_where_written};
+pub use reading::{LARGEST_MODULE, read};
