@@ -1,0 +1,13 @@
+pub mod ChainLemmas
+pub mod CharacterLemmas
+pub mod CommentLemmas
+pub mod EscapeLemmas
+pub mod FrontLemmas
+pub mod Laws
+pub mod MarkLemmas
+pub mod Names
+pub mod NumberLemmas
+pub mod OneOutcome
+pub mod PieceLemmas
+pub mod TextLemmas
+pub mod Tools

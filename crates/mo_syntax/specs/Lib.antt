@@ -1,0 +1,4 @@
+pub mod Characters
+pub mod Lexed
+pub mod Tokens
+pub mod Words

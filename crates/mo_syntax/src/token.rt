@@ -1,0 +1,55 @@
+//! Tokens.
+ghost use Rattle.std.specs.Prelude.{◌≡◌};
+ghost use Rattle.mo_syntax.specs.Tokens.{before_of};
+
+use crate::before::Before;
+use crate::mark::Mark;
+use crate::word::Word;
+use mo_num::{Bytes, Sequence};
+
+/// What a token is and what it carries. A literal is its value, so the many spellings of one number or text are one kind.
+#[derive(Drop)]
+pub enum TokenKind {
+    /// A name that is no reserved word: ASCII letters, digits and `_`.
+    Identifier(Bytes),
+    /// A reserved word. `true`, `false` and `null` are literals.
+    Reserved(Word),
+    /// A decimal or hexadecimal number, below 2^64.
+    Number(u64),
+    /// A character, as its Unicode scalar value.
+    Character(u32),
+    /// A text, as its bytes. They are UTF-8 unless an escape of one byte made them otherwise.
+    Text(Bytes),
+    /// An operator or mark.
+    Mark(Mark),
+}
+
+/// A token and the bytes of the source that it is: those from `start` on and below `end`, counted from 0.
+#[derive(Drop)]
+pub struct Token {
+    pub kind: TokenKind,
+    pub start: u32,
+    pub end: u32,
+}
+
+/// A list of tokens.
+pub type Tokens = Sequence<Token>;
+
+impl TokenKind {
+    /// What stands directly before the place at which a token of this kind ends.
+    pub fn before(&self) -> Before
+        ensures { result ≡ before_of self.now }
+    {
+        match self {
+            TokenKind::Identifier(_)
+            | TokenKind::Number(_)
+            | TokenKind::Character(_)
+            | TokenKind::Text(_)
+            | TokenKind::Reserved(Word::True | Word::False | Word::Null)
+            | TokenKind::Mark(
+                Mark::ParenClose | Mark::BracketClose | Mark::BraceClose | Mark::AngleClose,
+            ) => Before::Operand,
+            TokenKind::Reserved(_) | TokenKind::Mark(_) => Before::Other,
+        }
+    }
+}
