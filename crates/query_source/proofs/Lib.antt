@@ -1,0 +1,9 @@
+pub mod Tokens
+pub mod Reading
+pub mod Spellings
+pub mod LabelIds
+pub mod Lengths
+pub mod Parts
+pub mod Lists
+pub mod Answered
+pub mod Facts

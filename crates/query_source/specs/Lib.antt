@@ -1,0 +1,5 @@
+pub mod Tokens
+pub mod Words
+pub mod Labels
+pub mod Source
+pub mod Reading
