@@ -1,0 +1,27 @@
+-- What is written for the methods is their module.
+use Rattle.std.proofs.Common.{ℕ, List, Result, Ok, Err, IfOk, sym, subst}
+use Rattle.query_source.specs.declared.query.Method.{Method}
+use Rattle.wasm_tree.specs.declared.module_parts.Module.{Module}
+use Rattle.wasm_tree.specs.Spelling.{HasSpelling, IsLeast}
+use Rattle.wasm_tree.specs.Binary.{Written}
+use Rattle.wasm_tree.specs.Valid.{ValidModule}
+use Rattle.query_module.specs.Answers.{AreQueries, Answers, IsBuilt}
+use Rattle.query_module.specs.Tree.{IsQueryTree}
+use Rattle.query_module.proofs.Answering.{answers}
+use Rattle.query_module.proofs.Spelled.{spelled}
+use Rattle.query_module.proofs.Valid.{valid}
+
+pub tree_spelled : (methods : List Method) (tree : Module) → AreQueries methods → IsQueryTree methods tree → HasSpelling (Written tree)
+tree_spelled methods tree queries is = subst (λ t. HasSpelling (Written t)) (sym is.tree_is) (spelled methods is.replies queries is.are_replies)
+
+tree_built : (methods : List Method) (tree : Module) (bytes : List ℕ) → AreQueries methods → IsQueryTree methods tree → Written tree bytes → IsBuilt methods bytes
+tree_built methods tree bytes queries is written = record {
+  tree = tree;
+  written = written;
+  valid = subst ValidModule (sym is.tree_is) (valid methods is.replies queries is.are_replies);
+  runs = subst (Answers methods) (sym is.tree_is) (answers methods is.replies queries is.are_replies);
+}
+
+pub result_built : {E : Type 0} (methods : List Method) (tree : Module) (r : Result (List ℕ) E) → AreQueries methods → IsQueryTree methods tree → IfOk r (λ bytes. IsLeast (Written tree) bytes) → IfOk r (λ bytes. IsBuilt methods bytes)
+result_built methods tree (Ok bytes) queries is least = tree_built methods tree bytes queries is least.spells
+result_built methods tree (Err fault) queries is none = tt

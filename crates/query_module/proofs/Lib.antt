@@ -1,0 +1,9 @@
+pub mod Replies
+pub mod Runs
+pub mod Loads
+pub mod Finds
+pub mod Answering
+pub mod Valid
+pub mod Spelled
+pub mod Builds
+pub mod Named

@@ -1,0 +1,43 @@
+//! Builds the module of constant queries.
+ghost use Rattle.std.specs.Prelude.{◌≡◌, IfOk};
+ghost use Rattle.query_module.specs.Answers.{AreQueries, IsBuilt};
+ghost use Rattle.query_module.specs.Tree.{IsQueryTree};
+
+use crate::parts::{data, exports, functions, imports, memories, types};
+use crate::reply::{joined, replies};
+use mo_num::{Bytes, Memory, Sequence};
+use query_source::Method;
+use std::alloc::Global;
+use wasm_tree::{Module, write};
+
+fn query_module(alloc: Global, methods: &[Method]) -> Result<Module, Memory>
+    requires { AreQueries methods.now }
+    ensures { IfOk result (λ tree. IsQueryTree methods.now tree) }
+{
+    let made = replies(alloc, methods)?;
+    let bytes = joined(alloc, made.as_slice())?;
+    Ok(Module {
+        types: types(alloc)?,
+        imports: imports(alloc)?,
+        functions: functions(alloc, made.as_slice())?,
+        tables: Sequence::new(alloc),
+        memories: memories(alloc)?,
+        globals: Sequence::new(alloc),
+        exports: exports(alloc, methods)?,
+        start: None,
+        elements: Sequence::new(alloc),
+        segments: data(alloc, bytes)?,
+    })
+}
+
+/// The bytes of a module that answers the queries: a valid module whose run, by any host with at least the least
+/// limits, is an installation and then, for each query, the number of its method as a Candid message, or the
+/// rejection `no method`. The answer is Memory only where there was no memory for the module.
+/// WebAssembly Core 1.0, sections 2.5 and 5.5; IC interface specification, sections Imports and Query call.
+pub fn build_queries(alloc: Global, methods: &[Method]) -> Result<Bytes, Memory>
+    requires { AreQueries methods.now }
+    ensures { IfOk result (λ bytes. IsBuilt methods.now bytes) }
+{
+    let tree = query_module(alloc, methods)?;
+    write(alloc, &tree)
+}
