@@ -1,0 +1,1 @@
+actor { public query func answer() : async Nat { 42 } }
