@@ -1,10 +1,12 @@
 //! The same three answers, one byte at a time.
-ghost use Rattle.std.specs.Prelude.{◌≡◌, ◌≤◌, length};
+ghost use Rattle.std.specs.Prelude.{◌≡◌, ◌≤◌, ◌<◌, ℕ, length, slice_index, IfSome};
+ghost use Rattle.byte_lanes.specs.Difference.{IsFirstDifference};
 
 use std::alloc::{AllocError, Global};
 
 pub fn difference(a: &[u8], b: &[u8]) -> Option<usize>
     requires { length a.now ≡ length b.now }
+    ensures { IfSome result (IsFirstDifference a.now b.now) }
 {
     for place in 0..a.len() {
         if a[place] != b[place] {
@@ -14,7 +16,11 @@ pub fn difference(a: &[u8], b: &[u8]) -> Option<usize>
     None
 }
 
-pub fn ascii(bytes: &[u8]) -> usize {
+pub fn ascii(bytes: &[u8]) -> usize
+    ensures within { result ≤ length bytes.now }
+    ensures ascii { (k : ℕ) → k < result → slice_index bytes.now k < 128 }
+    ensures stops { result < length bytes.now → 128 ≤ slice_index bytes.now result }
+{
     for place in 0..bytes.len() {
         if bytes[place] > 127 {
             return place;
