@@ -9,7 +9,9 @@ use Rattle.wasm_tree.specs.declared.types.ValueType.TheVariants.{I32}
 use Rattle.wasm_tree.specs.declared.op.Plain.TheVariants.{I32Const}
 use Rattle.wasm_tree.specs.Code.{Code, Stop, Then, Call}
 use Rattle.wasm_tree.specs.Imports.{bytes_type, entry_type}
-use Rattle.wasm_tree.specs.Valid.{HasType, IsValidFunction, IsValidExport, ValidModule}
+use Rattle.wasm_tree.specs.Rules.{every, type_of}
+use Rattle.wasm_tree.specs.Valid.{IsValidFunction, IsValidExport, ValidModule}
+use Rattle.wasm_tree.proofs.Asked.{found, takes}
 use Rattle.query_module.specs.Answers.{AreQueries}
 use Rattle.query_module.proofs.Replies.{length_of_replies}
 use Rattle.query_module.specs.Tree.{AreReplies, query_function, functions_from, export_name, query_export, exports_from, tree_of_parts, query_tree}
@@ -18,23 +20,25 @@ use Rattle.query_module.specs.Tree.{AreReplies, query_function, functions_from, 
 abbrev pub query_code : ℕ → ℕ → Code
 query_code offset size = Then (I32Const (pos offset)) (Then (I32Const (pos size)) (Call 0 (Call 1 Stop)))
 
-valid_function : (functions : List Function) (exports : List Export) (bytes : List ℕ) (offset size : ℕ) → IsValidFunction (tree_of_parts functions exports bytes) (query_function offset size)
+valid_function : (functions : List Function) (exports : List Export) (bytes : List ℕ) (offset size : ℕ) → IsValidFunction every (tree_of_parts functions exports bytes) (query_function offset size)
 valid_function functions exports bytes offset size =
-    let append : HasType (tree_of_parts functions exports bytes) 0 bytes_type = record { signature = 0; of_function = refl; of_type = refl } in
-    let reply : HasType (tree_of_parts functions exports bytes) 1 entry_type = record { signature = 1; of_function = refl; of_type = refl } in
     record {
       type = entry_type;
-      of_type = refl;
+      of_type = found refl;
       tree = query_code offset size;
       nested = refl;
       typed = (
         I32 ∷ [],
-        record { below = []; found = refl; left = refl },
-        (I32 ∷ I32 ∷ [], record { below = I32 ∷ []; found = refl; left = refl }, (bytes_type, append, [], refl, (entry_type, reply, [], refl, refl))),
+        takes [] (I32 ∷ []) [],
+        (
+          I32 ∷ I32 ∷ [],
+          takes [] (I32 ∷ []) (I32 ∷ []),
+          (bytes_type, found refl, [], takes (I32 ∷ I32 ∷ []) [] [], (entry_type, found refl, [], takes [] [] [], λ _. refl)),
+        ),
       );
     }
 
-valid_functions : (functions : List Function) (exports : List Export) (bytes : List ℕ) (offset : ℕ) (replies : List (List ℕ)) → AllByRecursion (IsValidFunction (tree_of_parts functions exports bytes)) (functions_from offset replies)
+valid_functions : (functions : List Function) (exports : List Export) (bytes : List ℕ) (offset : ℕ) (replies : List (List ℕ)) → AllByRecursion (IsValidFunction every (tree_of_parts functions exports bytes)) (functions_from offset replies)
 valid_functions functions exports bytes offset [] = tt
 valid_functions functions exports bytes offset (r ∷ rs) = (valid_function functions exports bytes offset (length r), valid_functions functions exports bytes (offset + length r) rs)
 
@@ -48,20 +52,20 @@ signature_at offset [] k h = absurd (omega arith)
 signature_at offset (r ∷ rs) zero h = refl
 signature_at offset (r ∷ rs) (suc k) h = signature_at (offset + length r) rs k (omega arith)
 
-own_type : (exports : List Export) (bytes : List ℕ) (replies : List (List ℕ)) (k : ℕ) → k < length replies → HasType (tree_of_parts (functions_from 0 replies) exports bytes) (suc (suc k)) entry_type
-own_type exports bytes replies k h = record { signature = 1; of_function = signature_at 0 replies k h; of_type = refl }
+own_type : (exports : List Export) (bytes : List ℕ) (replies : List (List ℕ)) (k : ℕ) → k < length replies → type_of (tree_of_parts (functions_from 0 replies) exports bytes) (suc (suc k)) ≡ Some entry_type
+own_type exports bytes replies k h = rw (signature_at 0 replies k h) refl
 
-valid_export : (exports : List Export) (bytes : List ℕ) (replies : List (List ℕ)) (name : List ℕ) (k : ℕ) → k < length replies → IsValidExport (tree_of_parts (functions_from 0 replies) exports bytes) (query_export name (suc (suc k)))
+valid_export : (exports : List Export) (bytes : List ℕ) (replies : List (List ℕ)) (name : List ℕ) (k : ℕ) → k < length replies → IsValidExport every (tree_of_parts (functions_from 0 replies) exports bytes) (query_export name (suc (suc k)))
 valid_export exports bytes replies name k h = record {
-  there = omega (arith, length-map (functions_from 0 replies) (λ f. f.signature), length-functions_from 0 replies);
-  entry = λ _. own_type exports bytes replies k h;
+  there = λ _. omega (arith, length-map (functions_from 0 replies) (λ f. f.signature), length-functions_from 0 replies);
+  entry = λ _. record { type = entry_type; of_function = found (own_type exports bytes replies k h); plain = λ _. refl };
 }
 
 valid_exports : (exports : List Export) (bytes : List ℕ) (replies : List (List ℕ)) (methods : List Method) (k index : ℕ) → index ≡ suc (suc k) → k + length methods ≤ length replies
-    → AllByRecursion (IsValidExport (tree_of_parts (functions_from 0 replies) exports bytes)) (exports_from index methods)
+    → AllByRecursion (IsValidExport every (tree_of_parts (functions_from 0 replies) exports bytes)) (exports_from index methods)
 valid_exports exports bytes replies [] k index e h = tt
 valid_exports exports bytes replies (m ∷ ms) k index e h = (
-  subst (λ i. IsValidExport (tree_of_parts (functions_from 0 replies) exports bytes) (query_export m.name i)) (sym e) (valid_export exports bytes replies m.name k (omega arith)),
+  subst (λ i. IsValidExport every (tree_of_parts (functions_from 0 replies) exports bytes) (query_export m.name i)) (sym e) (valid_export exports bytes replies m.name k (omega arith)),
   valid_exports exports bytes replies ms (suc k) (index + 1) (omega arith) (omega arith),
 )
 
@@ -84,18 +88,23 @@ valid methods replies queries all =
     let same : length methods ≡ length replies = length_of_replies methods replies all in
     let few : length methods ≤ 1000 = queries.few in
     record {
-      types = (omega arith, (omega arith, tt));
-      imports = ((refl, (bytes_type, refl, (4, omega arith, refl))), ((refl, (entry_type, refl, (6, omega arith, refl))), tt));
+      parts = record {
+        types = (λ _. omega arith, (λ _. omega arith, tt));
+        imports = (
+          record { of_ic0 = λ _. refl; function = (bytes_type, found refl, λ _. (4, omega arith, refl)) },
+          (record { of_ic0 = λ _. refl; function = (entry_type, found refl, λ _. (6, omega arith, refl)) }, tt),
+        );
+        one_table = λ _. omega arith;
+        tables = tt;
+        one_memory = λ _. omega arith;
+        memories = (λ _. record { min = omega arith; max = tt }, tt);
+        globals = tt;
+        exports = valid_exports (exports_from 2 methods) (concat replies) replies methods 0 2 refl (omega arith);
+        names = λ _. subst (λ ns. AllPairs (λ a b. a ≢ b) ns) (sym (names_are methods 2)) (names_differ methods queries.differ);
+        start = tt;
+        elements = tt;
+        segments = (record { memory = λ _. omega arith; offset = λ _. inl (pos 0, refl, refl) }, tt);
+        small = λ _. record { functions = omega (arith, length-map (functions_from 0 replies) (λ f. f.signature), length-functions_from 0 replies); globals = omega arith };
+      };
       functions = valid_functions (functions_from 0 replies) (exports_from 2 methods) (concat replies) 0 replies;
-      one_table = omega arith;
-      tables = tt;
-      one_memory = omega arith;
-      memories = (record { min = omega arith; max = tt }, tt);
-      globals = tt;
-      exports = valid_exports (exports_from 2 methods) (concat replies) replies methods 0 2 refl (omega arith);
-      names = subst (λ ns. AllPairs (λ a b. a ≢ b) ns) (sym (names_are methods 2)) (names_differ methods queries.differ);
-      start = tt;
-      elements = tt;
-      segments = (record { memory = omega arith; offset = inl (pos 0, refl, refl) }, tt);
-      small = record { functions = omega (arith, length-map (functions_from 0 replies) (λ f. f.signature), length-functions_from 0 replies); globals = omega arith; tables = tt };
     }

@@ -15,7 +15,8 @@ use Rattle.wasm_tree.specs.declared.op.Plain.{Plain}
 use Rattle.wasm_tree.specs.declared.op.Plain.TheVariants as plain
 use Rattle.wasm_tree.specs.declared.module_parts.Module.{Module}
 use Rattle.wasm_tree.specs.Code.{Code, Stop, Then, Unreachable, Block, Loop, If, IfElse, Br, BrIf, BrTable, Return, Call, CallIndirect}
-use Rattle.wasm_tree.specs.Valid.{signatures, results_of}
+use Rattle.wasm_tree.specs.Rules.{results_of}
+pub use Rattle.wasm_tree.specs.Rules.{type_of}
 use Rattle.wasm_tree.specs.Numeric.{low, unsigned, equals_zero, compare, unary, binary, convert}
 
 -- What a host hands to each execution: steps, pages of memory and stack words.
@@ -285,13 +286,6 @@ after_call locals (Fell cause store) next = Traps cause store
 after_call locals Lost next = Stuck
 
 -- An indirect call: of the table's function at a place, where its type is the one asked for.
-abbrev pub or_no : {A B : Type 0} → Option A → (A → Option B) → Option B
-or_no None f = None
-or_no (Some a) f = f a
-
-abbrev pub type_of : Module → ℕ → Option FunctionType
-type_of m f = or_no (slice_get (signatures m) f) (slice_get m.types)
-
 abbrev pub same_kind : ValueType → ValueType → Bool
 same_kind I32 I32 = true
 same_kind I32 I64 = false

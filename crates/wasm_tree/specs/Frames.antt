@@ -8,8 +8,8 @@ use Rattle.wasm_tree.specs.declared.module_parts.Function.{Function}
 use Rattle.wasm_tree.specs.declared.module_parts.Module.{Module}
 use Rattle.wasm_tree.specs.Code.{Code, Stop, Then, Unreachable, Block, Loop, If, IfElse, Br, BrIf, BrTable, Return, Call, CallIndirect}
 use Rattle.wasm_tree.specs.Tree.{tree_of}
-use Rattle.wasm_tree.specs.Valid.{imported_signatures, grouped, results_of}
-use Rattle.wasm_tree.specs.Exec.{ExecutionLimits, Store, HostAnswer, Answers, Refuses, Host, Outcome, Falls, Branches, Returns, Traps, Stuck, Called, Back, Fell, Lost, Calls, type_of, exec}
+use Rattle.wasm_tree.specs.Rules.{imported_signatures, grouped, results_of, type_of}
+use Rattle.wasm_tree.specs.Exec.{ExecutionLimits, Store, HostAnswer, Answers, Refuses, Host, Outcome, Falls, Branches, Returns, Traps, Stuck, Called, Back, Fell, Lost, Calls, exec}
 
 abbrev pub imported_count : Module → ℕ
 imported_count m = length (imported_signatures m.imports)

@@ -5,6 +5,8 @@ pub mod Opcodes
 pub mod Binary
 pub mod Bounded
 pub mod Imports
+pub mod Rules
+pub mod Typing
 pub mod Valid
 pub mod Numeric
 pub mod Exec

@@ -11,6 +11,7 @@ mod op_spelled;
 mod op_tests;
 mod opcodes;
 mod parts_spelled;
+mod rule;
 mod spell;
 #[cfg(test)]
 mod tests;
@@ -26,6 +27,7 @@ pub use op::{
     BinaryOperator, Comparison, Conversion, Expression, LoadKind, MemoryArgument, Op, Plain,
     StoreKind, UnaryOperator,
 };
+pub use rule::Rule;
 pub use trap::Trap;
 pub use types::{FunctionType, GlobalType, Limits, ValueType};
 pub use writer::write;
