@@ -1,0 +1,15 @@
+pub mod Bounds
+pub mod Rooms
+pub mod Exited
+pub mod Passed
+pub mod Runs
+pub mod Heights
+pub mod Emits
+pub mod Laying
+pub mod Grouped
+pub mod Trees
+pub mod Tables
+pub mod Whole
+pub mod Functions
+pub mod Words
+pub mod Spelled
