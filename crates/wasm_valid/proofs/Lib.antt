@@ -1,0 +1,17 @@
+pub mod Labels
+pub mod Turns
+pub mod Stacks
+pub mod Runs
+pub mod Trees
+pub mod Parses
+pub mod States
+pub mod Sound
+pub mod Refute
+pub mod Grouped
+pub mod Functions
+pub mod SameKinds
+pub mod Answered
+pub mod Kept
+pub mod DistinctNames
+pub mod Besides
+pub mod Causes
