@@ -1,0 +1,4 @@
+pub mod SegmentLists
+pub mod Filling
+pub mod LoadSteps
+pub mod SmallModules

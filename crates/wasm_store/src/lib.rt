@@ -1,0 +1,12 @@
+//! What an instance of a module holds between its executions, and how a module is loaded.
+#![tactic(auto)]
+
+mod constant;
+mod room;
+mod segments;
+mod store;
+#[cfg(test)]
+mod tests;
+
+pub use room::Room;
+pub use store::{LoadTrap, MOST_ENTRIES, MOST_GLOBALS, Store};
