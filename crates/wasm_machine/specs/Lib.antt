@@ -1,0 +1,12 @@
+pub mod Active
+pub mod Acts
+pub mod Asked
+pub mod HostCame
+pub mod Hosts
+pub mod Operands
+pub mod Ran
+pub mod Running
+pub mod Sample
+pub mod Stacks
+pub mod Told
+pub mod Turns
