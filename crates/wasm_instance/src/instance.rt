@@ -1,0 +1,204 @@
+//! An instance of a module.
+ghost use Rattle.std.specs.Prelude.{◌≡◌, ◌≤◌, ◌*◌, vec_len};
+ghost use Rattle.wasm_tree.specs.Exec.{most_pages};
+
+use std::alloc::{AllocError, Global};
+use wasm_machine::{Host, Saved, Stop, execute};
+use wasm_store::{LoadTrap, Store};
+use wasm_tree::{Limits as Sizes, Trap};
+use wasm_valid::Valid;
+
+/// What each execution may use: steps, pages of memory, and stack words.
+#[derive(Clone, Copy, Debug, PartialEq, Eq)]
+pub struct Limits {
+    pub steps: u64,
+    pub pages: u32,
+    pub stack: u32,
+}
+
+/// How a run ends.
+#[derive(Clone, Copy, Debug, PartialEq, Eq)]
+pub enum Outcome {
+    Done,
+    Trap(Trap),
+    /// The host found no memory.
+    Memory,
+}
+
+/// Memory, globals and table of a module, and all room that its executions need. It holds no module: whoever runs one
+/// gives the one that was loaded.
+#[derive(Drop)]
+pub struct Instance {
+    pub limits: Limits,
+    pub store: Store,
+    /// The steps that are left since `begin`.
+    pub left: u64,
+    /// Whether memory was refused to grow since `begin`.
+    pub was_refused: bool,
+    cells: Vec<u64>,
+    saved: Vec<Saved>,
+    ghost pages: { store.memory.limit ≡ limits.pages },
+    ghost room: { (limits.stack ≤ vec_len cells) × (limits.stack ≤ 8 * vec_len saved) },
+}
+
+// How many pages the module's memory may have.
+fn most_pages(memories: &[Sizes]) -> u32
+    ensures { result ≡ most_pages memories.now }
+{
+    match memories {
+        [first, ..] => match first.max {
+            Some(most) => most,
+            None => 65_536,
+        },
+        [] => 0,
+    }
+}
+
+impl Instance {
+    ghost use Rattle.std.specs.Prelude.{◌≡◌, ◌≤◌, ◌*◌, IfOk, OnOk, true, false, min, slice_get, ◌⊎◌};
+    ghost use Rattle.outer.specs.Causes.{Rose};
+    ghost use Rattle.wasm_tree.specs.Exec.{entry};
+    ghost use Rattle.wasm_store.specs.Loading.{Answers, load_within, nothing};
+    ghost use Rattle.wasm_machine.specs.Asked.{IsMadeFor};
+    ghost use Rattle.wasm_machine.specs.Hosts.{played};
+    ghost use Rattle.wasm_machine.specs.Ran.{execute_with, limits_of, store_with, IsCallable, HasRun};
+    ghost use Rattle.wasm_instance.specs.Views.{standing, kept};
+    ghost use Rattle.wasm_instance.specs.Fits.{IsInstanceOf, ended};
+
+    /// An instance without a module. All memory is taken here: the stack, the pages of the limit, globals and table, and
+    /// committed copies of these three.
+    pub fn new(alloc: Global, limits: Limits) -> Result<Self, AllocError>
+        requires { limits.pages ≤ 65536 }
+        ensures limits { IfOk result (λ instance. instance.limits ≡ limits) }
+        ensures empty { IfOk result (λ instance. standing instance ≡ nothing) }
+        ensures kept { IfOk result (λ instance. kept instance ≡ nothing) }
+    {
+        let stack = limits.stack as usize;
+        let frame = Saved {
+            place: 0,
+            base: 0,
+            count: 0,
+            height: 0,
+            room: 0,
+        };
+        Ok(Instance {
+            limits,
+            store: Store::new(alloc, limits.pages)?,
+            left: 0,
+            was_refused: false,
+            cells: vec![in alloc; 0; stack]?,
+            saved: vec![in alloc; frame; stack / 8 + 1]?,
+        })
+    }
+
+    /// Begins an execution: the limit of steps is on all runs until the next one.
+    pub fn begin(&mut self)
+        ensures left { self.new.left ≡ self.old.limits.steps }
+        ensures refused { self.new.was_refused ≡ false }
+        ensures limits { self.new.limits ≡ self.old.limits }
+        ensures standing { standing self.new ≡ standing self.old }
+        ensures kept { kept self.new ≡ kept self.old }
+    {
+        self.left = self.limits.steps;
+        self.was_refused = false;
+    }
+
+    /// Whether a `memory.grow` since the last `begin` answered -1.
+    pub fn refused(&self) -> bool
+        ensures { result ≡ self.now.was_refused }
+    {
+        self.was_refused
+    }
+
+    /// The function at this place of the table. `None` where the place is past the end, or its entry empty.
+    pub fn table_entry(&self, place: u32) -> Option<u32>
+        ensures { result ≡ entry (slice_get self.now.store.table place) }
+    {
+        self.store.table_entry(place)
+    }
+
+    /// Keeps memory, globals and table as they are.
+    pub fn commit(&mut self)
+        ensures standing { standing self.new ≡ standing self.old }
+        ensures kept { kept self.new ≡ standing self.old }
+        ensures limits { self.new.limits ≡ self.old.limits }
+    {
+        self.store.commit();
+    }
+
+    /// Puts back what the last commit kept; before the first one, an instance without a module.
+    pub fn restore(&mut self)
+        ensures standing { standing self.new ≡ kept self.old }
+        ensures kept { kept self.new ≡ kept self.old }
+        ensures limits { self.new.limits ≡ self.old.limits }
+    {
+        self.store.restore();
+    }
+
+    /// Loads the module. After a refusal no module is there.
+    pub fn load(&mut self, tree: &Valid) -> Result<(), LoadTrap>
+        ensures answer { Answers (load_within self.old.limits.pages tree.now) result (standing self.new) }
+        ensures fits { OnOk result (IsInstanceOf tree.now (standing self.new)) }
+        ensures kept { kept self.new ≡ kept self.old }
+        ensures limits { self.new.limits ≡ self.old.limits }
+    {
+        self.store.load(tree.module())
+    }
+
+    /// Runs a function that gives no result. After a trap or want of memory, memory, globals and table may have changed,
+    /// until `restore`, and no steps are left. Takes no memory of its own.
+    pub fn run<H: Host>(
+        &mut self,
+        tree: &Valid,
+        function: u32,
+        args: &[u64],
+        host: &mut H,
+    ) -> Outcome
+        requires fits { IsInstanceOf tree.now (standing self.old) }
+        requires callable { IsCallable tree.now function args.now }
+        requires made_for { IsMadeFor tree.now (H.types host.old) }
+        ensures ran { HasRun H.replies host.old host.new (λ world. execute_with (limits_of self.old.left self.old.limits.pages self.old.limits.stack) tree.now played function args.now (store_with self.old.store.memory.bytes self.old.store.globals self.old.store.table self.old.was_refused world)) (store_with self.new.store.memory.bytes self.new.store.globals self.new.store.table self.new.was_refused) (ended result self.new.left) }
+        ensures types { H.types host.new ≡ H.types host.old }
+        ensures count { H.count host.old ≤ H.count host.new }
+        ensures memory { result ≡ Outcome.Memory → Rose (H.count host.old) (H.count host.new) }
+        ensures kept { kept self.new ≡ kept self.old }
+        ensures limits { self.new.limits ≡ self.old.limits }
+    {
+        let module = tree.module();
+        let most = self
+            .limits
+            .pages
+            .min(most_pages(module.memories.as_slice()));
+        let store = &mut self.store;
+        let result = execute(
+            host,
+            module,
+            tree.layout(),
+            store.table.as_slice(),
+            most,
+            function,
+            args,
+            self.left,
+            self.limits.stack as usize,
+            self.cells.as_mut_slice(),
+            self.saved.as_mut_slice(),
+            store.globals.as_mut_slice(),
+            &mut store.memory,
+            &mut self.was_refused,
+        );
+        match result {
+            Ok(left) => {
+                self.left = left;
+                Outcome::Done
+            }
+            Err(Stop::Trapped(cause)) => {
+                self.left = 0;
+                Outcome::Trap(cause)
+            }
+            Err(Stop::Memory) => {
+                self.left = 0;
+                Outcome::Memory
+            }
+        }
+    }
+}
