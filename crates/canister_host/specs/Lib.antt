@@ -1,0 +1,6 @@
+pub mod Entries
+pub mod Execution
+pub mod HostRun
+pub mod Replies
+pub mod State
+pub mod Types
