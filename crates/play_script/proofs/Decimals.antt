@@ -9,7 +9,7 @@ pub decimal_value-append : (high : ℕ) (xs : List ℕ) (c : ℕ) → decimal_va
 decimal_value-append high [] c = refl
 decimal_value-append high (x ∷ xs) c = decimal_value-append (10 * high + (x - 48)) xs c
 
-digits-append : (xs : List ℕ) (c : ℕ) → AllByRecursion IsAsciiDigit xs → IsAsciiDigit c → AllByRecursion IsAsciiDigit (xs ++ c ∷ [])
+pub digits-append : (xs : List ℕ) (c : ℕ) → AllByRecursion IsAsciiDigit xs → IsAsciiDigit c → AllByRecursion IsAsciiDigit (xs ++ c ∷ [])
 digits-append [] c hs h = (h, tt)
 digits-append (x ∷ xs) c hs h = (hs.0, digits-append xs c hs.1 h)
 

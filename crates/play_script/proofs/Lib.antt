@@ -1,3 +1,9 @@
 pub mod Decimals
 pub mod Hex
 pub mod Lines
+pub mod Splitting
+pub mod NumberReading
+pub mod HexReading
+pub mod Saying
+pub mod ScriptLines
+pub mod OneReading

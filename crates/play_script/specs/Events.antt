@@ -15,6 +15,14 @@ IsFit (Reply number bytes) = length bytes ≤ message_limit
 IsFit (Reject number code text) = (length text ≤ message_limit) × IsUtf8 text
 IsFit (Upgrade number) = ⊤
 
+-- how many bytes the event's message has
+abbrev pub message_length : Event → ℕ
+message_length (Install number) = 0
+message_length (Call query method caller bytes) = length bytes
+message_length (Reply number bytes) = length bytes
+message_length (Reject number code text) = length text
+message_length (Upgrade number) = 0
+
 -- the module that the event names, if it names one, is among so many
 abbrev pub NamesModuleBelow : ℕ → Event → Type 0
 NamesModuleBelow count (Install number) = number < count

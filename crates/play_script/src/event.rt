@@ -1,11 +1,11 @@
 //! What a canister or an actor is given.
-ghost use Rattle.std.specs.Prelude.{◌↔◌, IsTrue};
+ghost use Rattle.std.specs.Prelude.{◌≡◌, ◌↔◌, IsTrue};
 
 use mo_num::{Bytes, Principal, Sequence};
 use std::str;
 
 /// The most bytes of an argument, of a reply or of a reject's text: 2 MiB.
-const MESSAGE_LIMIT: usize = 2_097_152;
+pub(crate) const MESSAGE_LIMIT: usize = 2_097_152;
 
 /// One event of a script.
 #[derive(Drop)]
@@ -38,7 +38,7 @@ pub enum Event {
 pub type Events = Sequence<Event>;
 
 impl Event {
-    ghost use Rattle.play_script.specs.Events.{IsFit, NamesModuleBelow, IsNoInstall};
+    ghost use Rattle.play_script.specs.Events.{IsFit, NamesModuleBelow, IsNoInstall, message_length};
 
     /// Whether the event may be given at all: its bytes or its reject's text are at most 2,097,152 bytes long, and a
     /// reject's text is UTF-8.
@@ -51,6 +51,17 @@ impl Event {
             Event::Reject { text, .. } => {
                 text.len() <= MESSAGE_LIMIT && str::from_utf8(text.as_slice()).is_ok()
             }
+        }
+    }
+
+    /// How many bytes its message has.
+    pub(crate) fn message_len(&self) -> usize
+        ensures { result ≡ message_length self.now }
+    {
+        match self {
+            Event::Install(_) | Event::Upgrade(_) => 0,
+            Event::Call { bytes, .. } | Event::Reply { bytes, .. } => bytes.len(),
+            Event::Reject { text, .. } => text.len(),
         }
     }
 

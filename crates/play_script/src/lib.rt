@@ -3,13 +3,23 @@
 
 mod event;
 mod item;
+mod line;
 mod number;
+mod reading;
+mod script;
+mod script_laws;
+#[cfg(test)]
+mod script_tests;
 mod suit;
 #[cfg(test)]
 mod tests;
 mod text;
+mod verb;
+mod words;
 
 pub use event::{Event, Events};
 pub use item::{Item, Items, Word};
+pub use script::{ScriptFault, read_script};
+pub use script_laws::reading_law;
 pub use suit::events_suit;
 pub use text::item_text;
