@@ -1,4 +1,13 @@
 pub mod Characters
+pub mod ExpressionGrammar
 pub mod Lexed
+pub mod Parts
+pub mod PartWriting
+pub mod PatternGrammar
+pub mod ProgramGrammar
 pub mod Tokens
+pub mod TypeGrammar
 pub mod Words
+pub mod Writes
+pub mod Writing
+pub mod formers

@@ -1,0 +1,90 @@
+//! Programs: the imports and the actor (Motoko language manual, "Programs", "Imports", "Actors").
+use crate::declarations::Declaration;
+use crate::expressions::Expression;
+use crate::items::Items;
+use crate::name::Name;
+use crate::node::Node;
+use crate::patterns::{Parameters, Pattern, PatternField};
+use crate::types::TypeExpression;
+use mo_num::Bytes;
+
+/// The tree of a program.
+#[derive(Drop)]
+pub struct Tree {
+    pub imports: Items<Node<Import>>,
+    pub actor: Node<Actor>,
+    /// Whether a `;` stands behind the actor.
+    pub semicolon: bool,
+}
+
+/// `import x "path";`
+#[derive(Drop)]
+pub struct Import {
+    pub name: Name,
+    /// Whether `=` stands behind the name.
+    pub equal_sign: bool,
+    pub path: Node<Bytes>,
+}
+
+/// `actor x { .. }`. The name may be missing.
+#[derive(Drop)]
+pub struct Actor {
+    pub name: Option<Name>,
+    /// Whether `=` stands before the fields.
+    pub equal_sign: bool,
+    pub fields: Items<Node<ActorField>>,
+    /// Whether a `;` ends the fields.
+    pub semicolon: bool,
+}
+
+/// A field of an actor.
+#[derive(Drop)]
+pub enum ActorField {
+    /// `public` and a function.
+    Public(Node<SharedFunction>),
+    /// `system func f() { .. }`, or with `=` and an expression as its body.
+    System(Name, bool, Node<Expression>),
+    /// A declaration, with `private` before it or not.
+    Declared(bool, Node<Declaration>),
+    /// `stable var x : A = e`, with `private` before it or not. The type may be missing.
+    Stable(bool, Name, Option<Node<TypeExpression>>, Node<Expression>),
+}
+
+/// A public function of an actor: `shared (p) func f(q) : A { .. }`, or with `=` and an expression as its body.
+#[derive(Drop)]
+pub struct SharedFunction {
+    pub prefix: Option<SharedPrefix>,
+    pub name: Name,
+    pub parameters: Parameters,
+    pub result: Node<TypeExpression>,
+    /// Whether `=` stands before the body.
+    pub equal_sign: bool,
+    pub body: Node<Expression>,
+}
+
+/// What stands before `func`.
+#[derive(Drop)]
+pub struct SharedPrefix {
+    pub sort: SharedSort,
+    pub context: Option<Context>,
+}
+
+/// The words before `func`.
+#[derive(Clone, Copy, Debug, PartialEq, Eq)]
+pub enum SharedSort {
+    /// `shared`
+    Shared,
+    /// `shared query`
+    SharedQuery,
+    /// `query`
+    Query,
+}
+
+/// The pattern of the context of a call.
+#[derive(Drop)]
+pub enum Context {
+    /// `( p )`
+    Parenthesized(Node<Pattern>),
+    /// `{ x = p; y }`, with a last `;` or not.
+    Object(Items<Node<PatternField>>, bool),
+}
