@@ -3,6 +3,7 @@ pub mod CharacterLemmas
 pub mod CommentLemmas
 pub mod EscapeLemmas
 pub mod FrontLemmas
+pub mod Groups
 pub mod Laws
 pub mod MarkLemmas
 pub mod Names

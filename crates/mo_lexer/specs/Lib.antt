@@ -3,6 +3,7 @@ pub mod Escapes
 pub mod Faults
 pub mod Found
 pub mod Marks
+pub mod Names
 pub mod Numbers
 pub mod Places
 pub mod Reading
