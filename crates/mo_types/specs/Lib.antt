@@ -1,0 +1,16 @@
+pub mod Heads
+pub mod Label
+pub mod Laid
+pub mod Layout
+pub mod Same
+pub mod Keys
+pub mod Graph
+pub mod Sub
+pub mod Values
+pub mod Wire
+pub mod Form
+pub mod Spelling
+pub mod Header
+pub mod Code
+pub mod Calls
+pub mod Examples

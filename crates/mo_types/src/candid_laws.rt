@@ -1,0 +1,28 @@
+//! Small facts of the Candid definitions.
+ghost use Rattle.std.specs.Prelude.{◌≡◌, List, [], ◌∷◌};
+ghost use Rattle.mo_types.specs.declared.datum.Datum.{Datum};
+ghost use Rattle.mo_types.specs.Values.{by_label, flat, tree};
+ghost use Rattle.mo_types.specs.Wire.{Of, wire};
+ghost use Rattle.mo_types.specs.Header.{Visits};
+ghost use Rattle.mo_types.specs.Code.{Reads};
+ghost use Rattle.mo_types.specs.Examples.{err_field, forty_two, list_head, message_of_42, ok_field};
+
+/// Each list of parts is that of the values that it stands for.
+pub fn parts_are_values()
+    ensures { (parts : List Datum) → flat (tree parts) ≡ parts }
+{}
+
+/// Fields stand in the order of the numbers of their labels: `ok` has the smaller one.
+pub fn fields_go_by_number()
+    ensures { by_label (err_field ∷ ok_field ∷ []) ≡ ok_field ∷ err_field ∷ [] }
+{}
+
+/// A list of numbers has two entries in a header: the option, and then the record.
+pub fn a_list_has_two_entries()
+    ensures { Visits (wire list_head) [] (Of 0 ∷ []) (Of 0 ∷ Of 1 ∷ []) }
+{}
+
+/// The message of one number is read as it.
+pub fn a_number_is_read()
+    ensures { Reads list_head (2 ∷ []) message_of_42 forty_two }
+{}

@@ -1,0 +1,24 @@
+//! Types of Motoko as a graph, with the definitions of subtyping and of Candid.
+#![tactic(auto)]
+
+mod candid_laws;
+mod datum;
+mod fault;
+mod graph;
+mod heads;
+mod key;
+mod label;
+mod layout;
+mod node;
+#[cfg(test)]
+mod tests;
+
+pub use candid_laws::{
+    a_list_has_two_entries, a_number_is_read, fields_go_by_number, parts_are_values,
+};
+pub use datum::{Data, Datum};
+pub use fault::TypesFault;
+pub use graph::TypeGraph;
+pub use label::label_id;
+pub use layout::{kind_number, sort_number};
+pub use node::{Field, Node, Sort, TypeId};
