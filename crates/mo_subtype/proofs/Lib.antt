@@ -1,0 +1,5 @@
+pub mod Questions
+pub mod Rounds
+pub mod Asks
+pub mod Turns
+pub mod Natural

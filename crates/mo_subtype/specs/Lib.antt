@@ -1,0 +1,4 @@
+pub mod Questions
+pub mod Pairs
+pub mod Certificate
+pub mod Renamed

@@ -1,0 +1,13 @@
+//! Subtyping of Motoko types, with a certificate for either answer.
+#![tactic(auto)]
+
+mod ask;
+mod laws;
+mod pairs;
+mod search;
+#[cfg(test)]
+mod tests;
+
+pub use laws::{closed_pairs_hold, renaming_keeps_subtyping};
+pub use pairs::{Pair, Pairs};
+pub use search::{Verdict, subtype};
