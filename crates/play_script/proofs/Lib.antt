@@ -7,3 +7,5 @@ pub mod HexReading
 pub mod Saying
 pub mod ScriptLines
 pub mod OneReading
+pub mod EventLines
+pub mod NoScript

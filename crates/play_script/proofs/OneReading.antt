@@ -1,5 +1,5 @@
 -- A text spells one list of events at most.
-use Rattle.std.proofs.Common.{◌≡◌, ℕ, Bool, true, false, List, [], ◌∷◌, Some, refl, sym, ap, ◌∙◌, arith, inl, inr, cond, nat_eq}
+use Rattle.std.proofs.Common.{◌≡◌, IsTrue, ℕ, Bool, true, false, List, [], ◌∷◌, Some, refl, sym, ap, ◌∙◌, arith, inl, inr, cond, nat_eq}
 use Rattle.std.proofs.lemmas.Bool.Decides.{nat_tests}
 use Rattle.play_script.specs.declared.event.Event.{Event}
 use Rattle.play_script.specs.declared.event.Event.TheVariants.{Install, Call, Reply, Reject, Upgrade}
@@ -102,7 +102,7 @@ said_one v words (Upgrade number) (Upgrade number2) s t =
     ap Upgrade (same_number h.0 k.0 number number2 word h.2 k.2)
 
 -- a line spells one event at most
-says_one : (line : List ℕ) (e f : Event) → Spells e line → Spells f line → e ≡ f
+pub says_one : (line : List ℕ) (e f : Event) → Spells e line → Spells f line → e ≡ f
 says_one line e f s t = said_one (verb_of e) s.0 e f (said_of line (verb_of e) s.0 e s.1 s) (said_of line (verb_of e) s.0 f s.1 t)
 
 -- the first byte of a word, or that of a skipped line
@@ -128,10 +128,10 @@ begins_with_hash (c ∷ cs) w ws skip e =
     let other : nat_eq c 32 ≡ false = grind (arith, nat_tests) in
     first_word c (words_of cs) w ws (sym (ap (λ b. cond b ([] ∷ words_of cs) (on_first c (words_of cs))) other) ∙ e) ∙ skip
 
-skipped_says : (line : List ℕ) (e : Event) → IsSkipped line → Spells e line → ⊥
+pub skipped_says : (line : List ℕ) (e : Event) → IsSkipped line → Spells e line → ⊥
 skipped_says line e skip s = first_of_verb (verb_of e) (begins_with_hash line (word_of (verb_of e)) s.0 skip s.1)
 
-spell_one : (lines : List (List ℕ)) (es fs : List Event) → Spell lines es → Spell lines fs → es ≡ fs
+pub spell_one : (lines : List (List ℕ)) (es fs : List Event) → Spell lines es → Spell lines fs → es ≡ fs
 spell_one [] es fs s t = s ∙ sym t
 spell_one (l ∷ ls) es fs (inl s) (inl t) = spell_one ls es fs s.1 t.1
 spell_one (l ∷ ls) es fs (inl s) (inr t) = absurd (skipped_says l t.0 s.0 t.3)
@@ -143,3 +143,6 @@ spell_one (l ∷ ls) es fs (inr s) (inr t) =
 
 pub script_one : HasOneReading
 script_one text modules events others s t = spell_one (lines_of text) events others s.good.spelled t.good.spelled
+
+pub untrue : {P : Type 0} → (P → IsTrue false) → P → ⊥
+untrue h p = let e : false ≡ true = h p in absurd (cc)

@@ -14,12 +14,12 @@ use Rattle.play_script.specs.Scripts.{script_limit, IsSkipped, Spells, Spell, Is
 use Rattle.play_script.specs.Told.{FitsPlace, IsAdmitted, Told, LineTold}
 use Rattle.play_script.specs.Faults.{FaultOf, fault_at}
 
-spell_skip : (lines : List (List ℕ)) (line : List ℕ) (events : List Event) → Spell lines events → IsSkipped line → Spell (lines ++ line ∷ []) events
+pub spell_skip : (lines : List (List ℕ)) (line : List ℕ) (events : List Event) → Spell lines events → IsSkipped line → Spell (lines ++ line ∷ []) events
 spell_skip [] line events s skip = inl (skip, s)
 spell_skip (l ∷ ls) line events (inl k) skip = inl (k.0, spell_skip ls line events k.1 skip)
 spell_skip (l ∷ ls) line events (inr k) skip = inr (k.0, k.1, k.2, k.3, spell_skip ls line k.1 k.4 skip)
 
-spell_more : (lines : List (List ℕ)) (line : List ℕ) (events : List Event) (e : Event) → Spell lines events → Spells e line → Spell (lines ++ line ∷ []) (events ++ e ∷ [])
+pub spell_more : (lines : List (List ℕ)) (line : List ℕ) (events : List Event) (e : Event) → Spell lines events → Spells e line → Spell (lines ++ line ∷ []) (events ++ e ∷ [])
 spell_more [] line events e s says = inr (e, [], ap (λ (es : List Event). es ++ e ∷ []) s, says, refl)
 spell_more (l ∷ ls) line events e (inl k) says = inl (k.0, spell_more ls line events e k.1 says)
 spell_more (l ∷ ls) line events e (inr k) says = inr (k.0, k.1 ++ e ∷ [], ap (λ (es : List Event). es ++ e ∷ []) k.2, k.3, spell_more ls line k.1 e k.4 says)
@@ -66,7 +66,7 @@ no_install (Reply n b) long h = h
 no_install (Reject n c t) long h = h
 no_install (Upgrade n) long h = h
 
-other_install : (e : Event) → IsNoInstall e → IsInstall e → ⊥
+pub other_install : (e : Event) → IsNoInstall e → IsInstall e → ⊥
 other_install (Install number) other h = other
 other_install (Call q m c b) other h = h
 other_install (Reply n b) other h = h

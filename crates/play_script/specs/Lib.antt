@@ -5,3 +5,4 @@ pub mod Words
 pub mod Scripts
 pub mod Told
 pub mod Faults
+pub mod Places

@@ -8,7 +8,7 @@ use mo_num::{Bytes, Memory};
 use std::alloc::Global;
 
 /// The number that the word is.
-pub(crate) fn read_number(word: &[u8]) -> Option<u64>
+pub fn read_number(word: &[u8]) -> Option<u64>
     ensures found { IfSome result (IsNumber word.now) }
     ensures none { IfNone result ((n : ℕ) → IsNumber word.now n → ⊥) }
 {

@@ -1,5 +1,6 @@
 //! Scripts.
 ghost use Rattle.std.specs.Prelude.{◌≡◌, ◌++◌, ◌∷◌, [], ℕ, List, IfOk, IfErr};
+ghost use Rattle.play_script.specs.declared.event.Event.{Event};
 ghost use Rattle.play_script.specs.Scripts.{AreGood, ScriptOf};
 ghost use Rattle.play_script.specs.Told.{LineTold};
 ghost use Rattle.play_script.specs.Faults.{FaultOf, fault_at};
@@ -33,6 +34,7 @@ pub enum ScriptFault {
 pub fn read_script(alloc: Global, text: &[u8], modules: u32) -> Result<Events, ScriptFault>
     ensures ok { IfOk result (ScriptOf text.now modules) }
     ensures err { IfErr result (FaultOf text.now modules) }
+    ensures only { IfErr result (λ fault. (events : List Event) → ScriptOf text.now modules events → fault ≡ ScriptFault.Memory) }
 {
     if text.len() > SCRIPT_LIMIT {
         return Err(ScriptFault::ScriptTooLong);

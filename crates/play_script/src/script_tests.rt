@@ -2,7 +2,7 @@
 use crate::ScriptFault::{
     self, BadLine, MessageTooLong, ModuleNumber, NotInstalled, ScriptTooLong,
 };
-use crate::{Event, read_script};
+use crate::{Event, event_line, read_script};
 use std::alloc::{AllocError, Global};
 use std::test::Fail;
 
@@ -171,4 +171,12 @@ fn long_scripts(rt: HostRuntime) -> Result<(), Fail> {
     let text = filled(alloc, b"install 0\n#", 67_108_854, b' ')?;
     assert_eq!(rt; fault(alloc, text.as_slice()), Some(ScriptTooLong));
     Ok(())
+}
+
+#[test]
+fn event_lines(rt: HostRuntime) {
+    let text = b"# a script\ninstall 0\n\n#\nupgrade 0\nreply 0 -";
+    for (index, line) in [(0, 2), (1, 5), (2, 6)] {
+        assert_eq!(rt; event_line(text, index), line);
+    }
 }
