@@ -27,11 +27,11 @@ then_go (Back left store operands) next = next left store
 then_go (Fell cause store) next = Fell cause store
 then_go Lost next = Lost
 
--- The entries one after another, which share their steps.
+-- The entries one after another, which share their steps: each is entered under the limits with the steps that are left.
 abbrev pub run : ExecutionLimits → Module → List Entry → ℕ → Store World → Called World
 run limits m [] left store = Back left store []
 run limits m (e ∷ entries) left store =
-    then_go (enter (suc limits.stack) limits m (host m) limits.stack e.function left (entered_as e.kind store) e.operands) (run limits m entries)
+    then_go (enter (suc limits.stack) (record limits { steps = left }) m (host m) limits.stack e.function left (entered_as e.kind store) e.operands) (run limits m entries)
 
 -- The word of a trap. Code that reaches `unreachable` after a memory was refused to grow has run out of memory.
 abbrev pub word_of : Bool → List ℕ → Trap → Word
