@@ -158,6 +158,7 @@ impl Instance {
         requires callable { IsCallable tree.now function args.now }
         requires made_for { IsMadeFor tree.now (H.types host.old) }
         ensures ran { HasRun H.replies host.old host.new (λ world. execute_with (limits_of self.old.left self.old.limits.pages self.old.limits.stack) tree.now played function args.now (store_with self.old.store.memory.bytes self.old.store.globals self.old.store.table self.old.was_refused world)) (store_with self.new.store.memory.bytes self.new.store.globals self.new.store.table self.new.was_refused) (ended result self.new.left) }
+        ensures fits { IsInstanceOf tree.now (standing self.new) }
         ensures types { H.types host.new ≡ H.types host.old }
         ensures count { H.count host.old ≤ H.count host.new }
         ensures memory { result ≡ Outcome.Memory → Rose (H.count host.old) (H.count host.new) }
