@@ -1,0 +1,4 @@
+pub mod Awaiting
+pub mod Calling
+pub mod Executed
+pub mod Shown

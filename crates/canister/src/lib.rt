@@ -1,0 +1,16 @@
+//! The host of one canister: what it answers to events.
+#![tactic(auto)]
+
+mod answers;
+mod calls;
+mod canister;
+mod execution;
+mod incoming;
+mod installing;
+mod items;
+mod memories;
+mod messages;
+#[cfg(test)]
+mod tests;
+
+pub use canister::Canister;
