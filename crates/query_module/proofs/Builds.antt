@@ -7,7 +7,7 @@ use Rattle.wasm_tree.specs.Binary.{Written}
 use Rattle.wasm_tree.specs.Valid.{ValidModule}
 use Rattle.query_module.specs.Answers.{AreQueries, Answers, IsBuilt}
 use Rattle.query_module.specs.Tree.{IsQueryTree}
-use Rattle.query_module.proofs.Answering.{answers}
+use Rattle.query_module.proofs.Answering.{answers_all}
 use Rattle.query_module.proofs.Spelled.{spelled}
 use Rattle.query_module.proofs.Valid.{valid}
 
@@ -19,7 +19,7 @@ tree_built methods tree bytes queries is written = record {
   tree = tree;
   written = written;
   valid = subst ValidModule (sym is.tree_is) (valid methods is.replies queries is.are_replies);
-  runs = subst (Answers methods) (sym is.tree_is) (answers methods is.replies queries is.are_replies);
+  runs = subst (Answers methods) (sym is.tree_is) (answers_all methods is.replies queries is.are_replies);
 }
 
 pub result_built : {E : Type 0} (methods : List Method) (tree : Module) (r : Result (List ℕ) E) → AreQueries methods → IsQueryTree methods tree → IfOk r (λ bytes. IsLeast (Written tree) bytes) → IfOk r (λ bytes. IsBuilt methods bytes)

@@ -2,8 +2,10 @@ pub mod Replies
 pub mod Runs
 pub mod Loads
 pub mod Finds
+pub mod Calls
 pub mod Answering
 pub mod Valid
 pub mod Spelled
 pub mod Builds
 pub mod Named
+pub mod Only

@@ -56,6 +56,11 @@ part_short before reply after =
     let whole : length (concat (before ++ reply ∷ after)) ≡ length (concat before) + length (reply ++ concat after) = ap length (concat_split before reply after) ∙ length-append (concat before) (reply ++ concat after) in
     omega (arith, length-append reply (concat after))
 
+pub front_short : (before : List (List ℕ)) (reply : List ℕ) (after : List (List ℕ)) → length (concat before) ≤ length (concat (before ++ reply ∷ after))
+front_short before reply after =
+    let whole : length (concat (before ++ reply ∷ after)) ≡ length (concat before) + length (reply ++ concat after) = ap length (concat_split before reply after) ∙ length-append (concat before) (reply ++ concat after) in
+    omega arith
+
 part_is_of : (front reply back rest : List ℕ) → take (length reply) (drop (0 + length front) ((front ++ (reply ++ back)) ++ rest)) ≡ reply
 part_is_of front reply back rest =
     let at : length front ≡ 0 + length front = omega arith in

@@ -1,5 +1,5 @@
 -- The module of the methods has a spelling: its names are text, and its vectors and sections are short.
-use Rattle.std.proofs.Common.{◌≡◌, ℕ, ◌+◌, ◌*◌, ◌<◌, ◌≤◌, ◌^◌, List, [], ◌∷◌, ◌++◌, length, refl, arith, rules, codes, pos, length-append, true}
+use Rattle.std.proofs.Common.{◌≡◌, ℕ, ◌+◌, ◌*◌, ◌<◌, ◌≤◌, ◌^◌, List, [], ◌∷◌, ◌++◌, length, refl, arith, rules, codes, pos, length-append, true, suc}
 use Rattle.std.proofs.lemmas.Bool.Decides.{nat_tests}
 use Rattle.std.specs.List.{AllByRecursion, concat}
 use Rattle.query_source.specs.Tokens.{AreAll, is_letter}
@@ -12,7 +12,7 @@ use Rattle.wasm_tree.specs.Spelling.{HasSpelling}
 use Rattle.wasm_tree.specs.Binary.{IsFunctionType, IsLimits, IsName, IsExpression, IsImport, IsSignature, IsExport, IsCode, IsData, Written}
 use Rattle.wasm_tree.proofs.Within.{Within, within_raised, name_within, ascii_text, function_type_within, limits_within, expression_within, import_within, signature_within, export_within, code_within, data_within, IsShort, none_short, each_short, written_within}
 use Rattle.query_module.specs.Answers.{AreQueries}
-use Rattle.query_module.specs.Tree.{AreReplies, query_types, ic0_import, query_imports, query_body, query_function, functions_from, export_name, query_export, exports_from, query_memory, query_data, query_tree}
+use Rattle.query_module.specs.Tree.{AreReplies, query_types, ic0_import, query_imports, query_body, query_function, functions_from, export_name, query_export, exports_from, resume_export, query_exports, query_memory, query_data, query_tree}
 use Rattle.query_module.proofs.Replies.{joined_short, length_of_replies}
 use Rattle.query_module.proofs.Valid.{query_code, length-functions_from}
 
@@ -70,6 +70,9 @@ exports_within [] index named few = tt
 exports_within (m ∷ ms) index named few =
     (export_within (query_export m.name index) 52 (export_name_within m.name named.0.0) (omega arith), exports_within ms (index + 1) named.1 (omega arith))
 
+resume_within : Within (IsExport resume_export) 58
+resume_within = export_within resume_export 52 (literal_within resume_export.name (search rules) (omega arith)) (omega arith)
+
 length-exports_from : (methods : List Method) (index : ℕ) → length (exports_from index methods) ≡ length methods
 length-exports_from [] index = refl
 length-exports_from (m ∷ ms) index = let rest : length (exports_from (index + 1) ms) ≡ length ms = length-exports_from ms (index + 1) in omega arith
@@ -77,7 +80,7 @@ length-exports_from (m ∷ ms) index = let rest : length (exports_from (index + 
 memories_short : IsShort IsLimits (query_memory ∷ [])
 memories_short = each_short IsLimits (query_memory ∷ []) 11 (omega arith) (omega arith) (limits_within query_memory (omega arith) tt, tt)
 
-segments_short : (bytes : List ℕ) → length bytes ≤ 16000 → IsShort IsData (query_data bytes ∷ [])
+segments_short : (bytes : List ℕ) → length bytes ≤ 17000 → IsShort IsData (query_data bytes ∷ [])
 segments_short bytes short =
     let offset : Within (IsExpression (query_data bytes).offset) 12 = expression_within (query_data bytes).offset (Then (I32Const (pos 0)) Stop) refl (record { sfits = omega arith }, tt) in
     let segment : Within (IsData (query_data bytes)) (10 + (12 + length bytes)) = data_within (query_data bytes) 12 (omega arith) offset (omega arith) in
@@ -85,11 +88,11 @@ segments_short bytes short =
 
 pub spelled : (methods : List Method) (replies : List (List ℕ)) → AreQueries methods → AreReplies methods replies → HasSpelling (Written (query_tree methods replies))
 spelled methods replies queries all =
-    let same : length methods ≡ length replies = length_of_replies methods replies all in
+    let same : suc (length methods) ≡ length replies = length_of_replies methods replies all in
     let few : length methods ≤ 1000 = queries.few in
-    let short : length (concat replies) ≤ 16 * length methods = joined_short methods replies queries.named all in
+    let short : length (concat replies) ≤ 6 + 16 * length methods = joined_short methods replies queries.named all in
     let functions : length (functions_from 0 replies) ≡ length replies = length-functions_from 0 replies in
-    let exports : length (exports_from 2 methods) ≡ length methods = length-exports_from methods 2 in
+    let exports : length (exports_from 3 methods) ≡ length methods = length-exports_from methods 3 in
     written_within (query_tree methods replies) (record {
       types = types_short;
       imports = imports_short;
@@ -97,7 +100,7 @@ spelled methods replies queries all =
       tables = none_short _;
       memories = memories_short;
       globals = none_short _;
-      exports = each_short IsExport (exports_from 2 methods) 58 (omega arith) (omega arith) (exports_within methods 2 queries.named (omega arith));
+      exports = each_short IsExport (query_exports methods) 58 (omega arith) (omega arith) (resume_within, exports_within methods 3 queries.named (omega arith));
       start = tt;
       elements = none_short _;
       codes = each_short IsCode (functions_from 0 replies) 55 (omega arith) (omega arith) (codes_within 0 replies (omega arith));

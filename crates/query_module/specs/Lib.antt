@@ -1,5 +1,4 @@
 pub mod Message
-pub mod World
-pub mod HostRun
+pub mod ActorRun
 pub mod Answers
 pub mod Tree

@@ -1,5 +1,5 @@
--- The module of constant queries. Its data are the replies, one after another, and each method's function replies with
--- its own part of them: WebAssembly Core 1.0, section 2.5, and IC interface specification, section Responding.
+-- The module of constant queries. Its data are the replies, one after another, and each function replies with its own
+-- part of them: WebAssembly Core 1.0, section 2.5, and IC interface specification, section Responding.
 use Rattle.std.specs.Prelude.{◌≡◌, ℕ, ◌+◌, List, [], ◌∷◌, ◌++◌, length, None, codes, pos}
 use Rattle.std.specs.List.{AllZip, concat}
 use Rattle.query_source.specs.declared.query.Method.{Method}
@@ -16,7 +16,7 @@ use Rattle.wasm_tree.specs.declared.module_parts.Export.{Export}
 use Rattle.wasm_tree.specs.declared.module_parts.DataSegment.{DataSegment}
 use Rattle.wasm_tree.specs.declared.module_parts.Module.{Module}
 use Rattle.wasm_tree.specs.Imports.{bytes_type, entry_type}
-use Rattle.query_module.specs.Message.{IsNatMessage}
+use Rattle.query_module.specs.Message.{empty_message, IsNatMessage}
 
 -- What the host's two functions take, and nothing: types 0 and 1.
 abbrev pub query_types : List FunctionType
@@ -53,6 +53,13 @@ abbrev pub exports_from : ℕ → List Method → List Export
 exports_from index [] = []
 exports_from index (m ∷ ms) = query_export m.name index ∷ exports_from (index + 1) ms
 
+-- `__resume`, the update method that each actor has, and the methods. Its function is the first of the module's own.
+abbrev pub resume_export : Export
+resume_export = record { name = codes "canister_update __resume"; kind = export.Function 2 }
+
+abbrev pub query_exports : List Method → List Export
+query_exports methods = resume_export ∷ exports_from 3 methods
+
 -- one page, which may grow
 abbrev pub query_memory : Limits
 query_memory = record { min = 1; max = None }
@@ -76,13 +83,19 @@ tree_of_parts functions exports bytes = record {
   segments = query_data bytes ∷ [];
 }
 
--- The module of the methods, of which each has its reply.
-abbrev pub query_tree : List Method → List (List ℕ) → Module
-query_tree methods replies = tree_of_parts (functions_from 0 replies) (exports_from 2 methods) (concat replies)
-
 -- One reply for each method, in turn: its number as a message.
-abbrev pub AreReplies : List Method → List (List ℕ) → Type 0
-AreReplies methods replies = AllZip (λ m reply. IsNatMessage m.number reply) methods replies
+abbrev pub AreNumbers : List Method → List (List ℕ) → Type 0
+AreNumbers methods replies = AllZip (λ m reply. IsNatMessage m.number reply) methods replies
+
+-- The reply of `__resume`, and those of the methods.
+pub record AreReplies (methods : List Method) (replies : List (List ℕ)) : Type 0 where
+  pub numbers : List (List ℕ)
+  pub are_numbers : AreNumbers methods numbers
+  pub replies_are : replies ≡ empty_message ∷ numbers
+
+-- The module of the methods and their replies.
+abbrev pub query_tree : List Method → List (List ℕ) → Module
+query_tree methods replies = tree_of_parts (functions_from 0 replies) (query_exports methods) (concat replies)
 
 -- The module of the methods and of replies of theirs.
 pub record IsQueryTree (methods : List Method) (tree : Module) : Type 0 where

@@ -30,10 +30,11 @@ fn query_module(alloc: Global, methods: &[Method]) -> Result<Module, Memory>
     })
 }
 
-/// The bytes of a module that answers the queries: a valid module whose run, by any host with at least the least
-/// limits, is an installation and then, for each query, the number of its method as a Candid message, or the
-/// rejection `no method`. The answer is Memory only where there was no memory for the module.
-/// WebAssembly Core 1.0, sections 2.5 and 5.5; IC interface specification, sections Imports and Query call.
+/// The bytes of the actor's module: a valid module whose run, by any host with at least the least limits, is the actor's.
+/// It is installed, and then a query or a call of a method is replied to with the method's number as a Candid message, a
+/// call of `__resume` with no values, and any other is rejected with `no method`. The answer is Memory only where there
+/// was no memory for the module.
+/// WebAssembly Core 1.0, sections 2.5 and 5.5; IC interface specification, sections Imports, Update call and Query call.
 pub fn build_queries(alloc: Global, methods: &[Method]) -> Result<Bytes, Memory>
     requires { AreQueries methods.now }
     ensures { IfOk result (λ bytes. IsBuilt methods.now bytes) }

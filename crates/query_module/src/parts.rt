@@ -2,7 +2,7 @@
 ghost use Rattle.std.specs.Prelude.{◌≡◌, ◌≤◌, ◌<◌, ◌^◌, [], ◌∷◌, length, IfOk};
 ghost use Rattle.std.specs.List.{concat};
 ghost use Rattle.wasm_tree.specs.Imports.{bytes_type, entry_type};
-ghost use Rattle.query_module.specs.Tree.{query_types, ic0_import, query_imports, query_body, query_function, functions_from, query_export, exports_from, query_memory, query_data};
+ghost use Rattle.query_module.specs.Tree.{query_types, ic0_import, query_imports, query_body, query_function, functions_from, query_export, exports_from, resume_export, query_exports, query_memory, query_data};
 
 use mo_num::{Bytes, Memory, Sequence};
 use query_source::Method;
@@ -17,12 +17,14 @@ const BYTES_TYPE: u32 = 0;
 
 const ENTRY_TYPE: u32 = 1;
 
-// The indices of functions: the two that are imported, and the first one of the module's own.
+// The indices of functions: the two that are imported, that of `__resume`, and the first one of a method.
 const DATA_APPEND: u32 = 0;
 
 const REPLY: u32 = 1;
 
-const FIRST_FUNCTION: u32 = 2;
+const RESUME_FUNCTION: u32 = 2;
+
+const FIRST_METHOD: u32 = 3;
 
 // Takes a part of the memory.
 fn bytes_type(alloc: Global) -> Result<FunctionType, Memory>
@@ -131,14 +133,25 @@ fn query_export(alloc: Global, method: &[u8], index: u32) -> Result<Export, Memo
     })
 }
 
-/// The exports of the methods, whose functions stand in the same order.
+// The export of `__resume`, whose function is the first of the module's own.
+fn resume_export(alloc: Global) -> Result<Export, Memory>
+    ensures { IfOk result (λ export. export ≡ resume_export) }
+{
+    Ok(Export {
+        name: Bytes::from_slice(alloc, b"canister_update __resume")?,
+        kind: ExportKind::Function(RESUME_FUNCTION),
+    })
+}
+
+/// The exports of `__resume` and of the methods, whose functions stand in the same order.
 pub fn exports(alloc: Global, methods: &[Method]) -> Result<Sequence<Export>, Memory>
     requires { length methods.now ≤ 1000 }
-    ensures { IfOk result (λ exports. exports ≡ exports_from 2 methods.now) }
+    ensures { IfOk result (λ exports. exports ≡ query_exports methods.now) }
 {
     let mut exports = Sequence::new(alloc);
+    exports.push(resume_export(alloc)?)?;
     for (place, method) in methods.iter().enumerate() {
-        let index = FIRST_FUNCTION + place as u32;
+        let index = FIRST_METHOD + place as u32;
         exports.push(query_export(alloc, method.name.as_slice(), index)?)?;
     }
     Ok(exports)

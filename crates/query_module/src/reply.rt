@@ -1,7 +1,7 @@
 //! The replies of constant queries, as the module's data.
 ghost use Rattle.std.specs.Prelude.{◌≡◌, IfOk};
 ghost use Rattle.std.specs.List.{concat};
-ghost use Rattle.query_module.specs.Message.{IsNatMessage};
+ghost use Rattle.query_module.specs.Message.{empty_message, IsNatMessage};
 ghost use Rattle.query_module.specs.Tree.{AreReplies};
 
 use mo_num::{Bytes, Memory, Sequence, leb_write};
@@ -18,11 +18,19 @@ fn message(alloc: Global, number: u64) -> Result<Bytes, Memory>
     Ok(bytes)
 }
 
-/// The replies of the methods, in turn.
+/// No types and no arguments (Candid specification, section Binary Format).
+fn empty_message(alloc: Global) -> Result<Bytes, Memory>
+    ensures { IfOk result (λ bytes. bytes ≡ empty_message) }
+{
+    Bytes::from_slice(alloc, b"DIDL\0\0")
+}
+
+/// The reply of `__resume`, and then those of the methods, in turn.
 pub fn replies(alloc: Global, methods: &[Method]) -> Result<Sequence<Bytes>, Memory>
     ensures { IfOk result (λ replies. AreReplies methods.now replies) }
 {
     let mut replies = Sequence::new(alloc);
+    replies.push(empty_message(alloc)?)?;
     for method in methods {
         replies.push(message(alloc, method.number)?)?;
     }
