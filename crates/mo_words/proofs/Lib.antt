@@ -1,0 +1,4 @@
+pub mod Files
+pub mod Given
+pub mod Ends
+pub mod Unique

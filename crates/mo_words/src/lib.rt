@@ -1,0 +1,11 @@
+//! The words of a command line.
+#![tactic(auto)]
+
+mod command;
+mod options;
+mod split;
+#[cfg(test)]
+mod tests;
+
+pub use command::{Command, Replay, read_words};
+pub use options::Options;
