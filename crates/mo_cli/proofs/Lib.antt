@@ -1,2 +1,5 @@
-pub mod Words
 pub mod Builds
+pub mod Texts
+pub mod Files
+pub mod Ending
+pub mod Asked

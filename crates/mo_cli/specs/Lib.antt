@@ -1,4 +1,7 @@
-pub mod Words
 pub mod Built
+pub mod Held
+pub mod Replays
 pub mod Ends
 pub mod Lines
+pub mod Codes
+pub mod Stopped

@@ -3,6 +3,10 @@
 
 mod compile;
 mod help;
+#[cfg(test)]
+mod host_tests;
+mod line;
+mod replay;
 mod run;
 mod status;
 #[cfg(test)]
@@ -44,20 +48,20 @@ fn notice(words: &[String]) -> Option<&'static str> {
 fn main(rt: HostRuntime) -> ExitCode {
     let alloc = rt.alloc();
     let Ok(args) = env::args(&rt) else {
-        return ExitCode::from(Status::Usage as u8);
+        return ExitCode::from(Status::Usage.code());
     };
     let Ok(words) = words_of(alloc, args) else {
-        return ExitCode::from(Status::NoMemory as u8);
+        return ExitCode::from(Status::NoMemory.code());
     };
     if let Some(text) = notice(words.as_slice()) {
         return match print!(rt; "{text}") {
-            Ok(()) => ExitCode::from(Status::Done as u8),
-            Err(_) => ExitCode::from(Status::WriteFault as u8),
+            Ok(()) => ExitCode::from(Status::Done.code()),
+            Err(_) => ExitCode::from(Status::WriteFault.code()),
         };
     }
     let mut files = RealFiles::new(&rt);
     let mut out = RealSink::new(io::writer(&rt));
     let mut err = RealSink::new(rt.stderr());
     let status = run_mo(alloc, words.as_slice(), &mut files, &mut out, &mut err);
-    ExitCode::from(status as u8)
+    ExitCode::from(status.code())
 }

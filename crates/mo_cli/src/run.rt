@@ -1,55 +1,30 @@
 //! The top call.
-ghost use Rattle.std.specs.Prelude.{◌≡◌, ◌≢◌, ◌⊎◌, ◌↔◌, IsTrue, codes, List, ℕ, [], ◌∷◌, map, string_bytes};
-ghost use Rattle.mo_cli.specs.Ends.{BuildEnds, Ends, EndsAsAsked, outside};
-ghost use Rattle.mo_cli.specs.Lines.{line_of, Tells};
+ghost use Rattle.std.specs.Prelude.{◌≡◌, map, string_bytes, None};
+ghost use Rattle.mo_cli.specs.Held.{outside};
+ghost use Rattle.mo_cli.specs.Ends.{BuildEnds, Ends, EndsAsAsked};
+ghost use Rattle.mo_cli.specs.Lines.{Tells};
 
 use crate::compile::{CompileFault, compile};
-use crate::status::Status;
+use crate::line::tell;
+use crate::replay::replay;
+use crate::status::{Input, Status};
+use mo_words::{Command, read_words};
 use outer::{Content, Files, OutsideFault, Sink};
 use query_source::LONGEST_SOURCE;
 use std::alloc::Global;
 
-fn line_of(status: Status) -> &'static [u8]
-    ensures { result.now ≡ line_of status }
-{
-    match status {
-        Status::Done => b"",
-        Status::Refused => b"refused 0 Build.NotYet 1:1\n",
-        Status::Usage => b"usage\n",
-        Status::ReadFault => b"read fault\n",
-        Status::WriteFault => b"write fault\n",
-        Status::NoMemory => b"no memory\n",
-        Status::NoFile => b"no file 0\n",
-    }
-}
-
-// Puts the status's line. A put that fails keeps the status; want of memory is a status of its own.
-fn tell<E: Sink>(status: Status, err: &mut E) -> Status
-    ensures same { (result ≡ status) ⊎ ((status ≢ Status.Done) × (result ≡ Status.NoMemory)) }
-    ensures tells { Tells (E.shown err.old) (E.shown err.new) (E.faults err.old) (E.faults err.new) result }
-{
-    match status {
-        Status::Done => Status::Done,
-        _ => match err.put(line_of(status)) {
-            Ok(()) => status,
-            Err(OutsideFault::Failed) => status,
-            Err(OutsideFault::Memory) => Status::NoMemory,
-        },
-    }
-}
-
 fn build<F: Files>(alloc: Global, source: &str, out: &str, files: &mut F) -> Status
     ensures { BuildEnds source.now out.now
-        (outside (F.names files.old) (F.read_faults files.old) (F.write_faults files.old))
-        (outside (F.names files.new) (F.read_faults files.new) (F.write_faults files.new)) result }
+        (outside (F.names files.old) (F.read_faults files.old) (F.write_faults files.old) None 0)
+        (outside (F.names files.new) (F.read_faults files.new) (F.write_faults files.new) None 0) result }
 {
     match files.read(alloc, source, LONGEST_SOURCE as u64) {
         Err(OutsideFault::Failed) => Status::ReadFault,
         Err(OutsideFault::Memory) => Status::NoMemory,
-        Ok(Content::Missing) => Status::NoFile,
-        Ok(Content::TooLong) => Status::Refused,
+        Ok(Content::Missing) => Status::NoFile { place: 0 },
+        Ok(Content::TooLong) => Status::Refused { source: 0 },
         Ok(Content::Whole(text)) => match compile(alloc, text.as_slice()) {
-            Err(CompileFault::NotYet) => Status::Refused,
+            Err(CompileFault::NotYet) => Status::Refused { source: 0 },
             Err(CompileFault::Memory) => Status::NoMemory,
             Ok(bytes) => match files.write(out, bytes.as_slice()) {
                 Ok(()) => Status::Done,
@@ -60,80 +35,46 @@ fn build<F: Files>(alloc: Global, source: &str, out: &str, files: &mut F) -> Sta
     }
 }
 
-// The words are `build SRC OUT`.
-fn is_build(command: &str, source: &str, out: &str) -> bool
-    ensures { IsTrue result ↔ (command.now ≡ codes "build") × (source.now ≢ []) × (out.now ≢ []) }
-{
-    if command != "build" {
-        return false;
-    }
-    if source.is_empty() {
-        return false;
-    }
-    if out.is_empty() {
-        return false;
-    }
-    true
-}
-
-fn three_words<F: Files>(
-    alloc: Global,
-    command: &str,
-    source: &str,
-    out: &str,
-    files: &mut F,
-) -> Status
-    ensures { Ends (command.now ∷ source.now ∷ out.now ∷ [])
-        (outside (F.names files.old) (F.read_faults files.old) (F.write_faults files.old))
-        (outside (F.names files.new) (F.read_faults files.new) (F.write_faults files.new)) result }
-{
-    if is_build(command, source, out) {
-        build(alloc, source, out, files)
-    } else {
-        Status::Usage
-    }
-}
-
-fn work<F: Files>(alloc: Global, words: &[String], files: &mut F) -> Status
+fn work<F: Files, O: Sink>(alloc: Global, words: &[String], files: &mut F, out: &mut O) -> Status
     ensures { Ends (map string_bytes words.now)
-        (outside (F.names files.old) (F.read_faults files.old) (F.write_faults files.old))
-        (outside (F.names files.new) (F.read_faults files.new) (F.write_faults files.new)) result }
+        (outside (F.names files.old) (F.read_faults files.old) (F.write_faults files.old) (O.shown out.old) (O.faults out.old))
+        (outside (F.names files.new) (F.read_faults files.new) (F.write_faults files.new) (O.shown out.new) (O.faults out.new)) result }
 {
-    match words {
-        [command, source, out] => {
-            three_words(
-                alloc,
-                command.as_str(),
-                source.as_str(),
-                out.as_str(),
-                files,
-            )
-        }
-        _ => Status::Usage,
+    match read_words(words) {
+        None => Status::Usage,
+        Some(
+            Command::Build {
+                source,
+                out: module,
+            },
+        ) => build(alloc, source, module, files),
+        Some(Command::Play(order)) => replay(alloc, Input::Modules, order, files, out),
+        Some(Command::Run(order)) => replay(alloc, Input::Sources, order, files, out),
     }
 }
 
-/// Does what the words after the program's name say: `build SRC OUT`. Each line goes to the error stream by one put, and
-/// nothing to `_out`.
+/// Does what the words after the program's name say: `build SRC OUT`, `play [options] SCRIPT MODULE..` or
+/// `run [options] SCRIPT SRC..`. Each line goes to the output or to the error stream by one put.
 ///
-/// With status Done, SRC held the source of an actor of constant queries, and OUT holds a valid module whose run
-/// answers each query with its method's number; no other name changed. Each other status has its cause.
+/// With status Done, `build` found the source of an actor of constant queries, and OUT holds a valid module whose run
+/// is the actor's; `play` found valid modules and a script, and put the transcript of the host's run over them; `run`
+/// found sources and a script, and put the transcript of the actors' run. No other name changed. Each other status has
+/// its cause, and leaves the output as it was, or with a prefix of such a transcript.
 pub fn run_mo<F: Files, O: Sink, E: Sink>(
     alloc: Global,
     words: &[String],
     files: &mut F,
-    _out: &mut O,
+    out: &mut O,
     err: &mut E,
 ) -> Status
     ensures ends { Ends (map string_bytes words.now)
-        (outside (F.names files.old) (F.read_faults files.old) (F.write_faults files.old))
-        (outside (F.names files.new) (F.read_faults files.new) (F.write_faults files.new)) result }
+        (outside (F.names files.old) (F.read_faults files.old) (F.write_faults files.old) (O.shown out.old) (O.faults out.old))
+        (outside (F.names files.new) (F.read_faults files.new) (F.write_faults files.new) (O.shown out.new) (O.faults out.new)) result }
     ensures as_asked { EndsAsAsked (map string_bytes words.now)
-        (outside (F.names files.old) (F.read_faults files.old) (F.write_faults files.old))
-        (outside (F.names files.new) (F.read_faults files.new) (F.write_faults files.new)) result }
-    ensures out { O.shown _out.new ≡ O.shown _out.old }
+        (outside (F.names files.old) (F.read_faults files.old) (F.write_faults files.old) (O.shown out.old) (O.faults out.old))
+        (outside (F.names files.new) (F.read_faults files.new) (F.write_faults files.new) (O.shown out.new) (O.faults out.new)) result }
     ensures err { Tells (E.shown err.old) (E.shown err.new) (E.faults err.old) (E.faults err.new) result }
 {
-    let status = work(alloc, words, files);
-    tell(status, err)
+    let status = work(alloc, words, files, out);
+    tell(alloc, status, err)
 }

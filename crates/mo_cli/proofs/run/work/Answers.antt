@@ -1,8 +1,16 @@
-use Rattle.std.proofs.Common.{string_bytes, Global}
-use Rattle.mo_cli.proofs.Words.{three_items}
+use Rattle.std.proofs.Common.{string_bytes, Global, map}
+use Rattle.mo_words.specs.Commands.{IsPlay, IsRun}
+use Rattle.mo_cli.proofs.Ending.{ordered}
 use Rattle.mo_cli.proofs.run.work.Goals as goal
 
-pub returns-in-len3 : goal.returns-in-len3
-returns-in-len3 g c =
-    let whole = three_items (string_bytes {Z = Global}) c.args.words.now c.command-item.result c.source-item.result c.out-item.result c.in-len3.len_at_least c.in-len3.len_below c.command-item.is c.source-item.is c.out-item.is in
-    rw (whole, ← c.as_str.ensures.value, ← c.as_str-in-len3.ensures.value, ← c.as_str-in-len3-2.ensures.value) c.three_words.ensures
+pub replay-requires : goal.replay-requires
+replay-requires g c =
+    let p : IsPlay (map (string_bytes {Z = Global}) c.args.words.now) c.in-Some-Play.order.options c.in-Some-Play.order.script.now (map (string_bytes {Z = Global}) c.in-Some-Play.order.files.now) =
+    rw c.in-Some-Play.field-0-is at c.in-Some-Play.ensures.found in
+    ordered (string_bytes {Z = Global}) p.others c.in-Some-Play.order.options c.in-Some-Play.order.script.now c.in-Some-Play.order.files.now p.replay
+
+pub replay-requires-in-Some-Run : goal.replay-requires-in-Some-Run
+replay-requires-in-Some-Run g c =
+    let p : IsRun (map (string_bytes {Z = Global}) c.args.words.now) c.in-Some-Run.order.options c.in-Some-Run.order.script.now (map (string_bytes {Z = Global}) c.in-Some-Run.order.files.now) =
+    rw c.in-Some-Run.field-0-is at c.in-Some-Run.ensures.found in
+    ordered (string_bytes {Z = Global}) p.others c.in-Some-Run.order.options c.in-Some-Run.order.script.now c.in-Some-Run.order.files.now p.replay
