@@ -1,4 +1,4 @@
-//! Rounds of reading and writing, by the clock.
+//! Rounds of reading, writing and validating, by the clock.
 use crate::large::large_module;
 use mo_num::Memory;
 use std::alloc::Global;
@@ -8,6 +8,7 @@ use std::time::{Duration, Instant};
 use std::{fs, io};
 use wasm_read::{ReadFault, read};
 use wasm_tree::write;
+use wasm_valid::validate;
 
 // Measurements of each, of which the fastest counts.
 const TRIES: u32 = 5;
@@ -18,6 +19,7 @@ pub fn all(rt: &HostRuntime, alloc: Global, file: &str) -> io::Result<()> {
     fs::write(rt, file, bytes.as_slice())?;
     let mut reading = Duration::MAX;
     let mut writing = Duration::MAX;
+    let mut validating = Duration::MAX;
     let mut agree = true;
     for _ in 0..TRIES {
         let start = Instant::now(rt)?;
@@ -32,6 +34,11 @@ pub fn all(rt: &HostRuntime, alloc: Global, file: &str) -> io::Result<()> {
                     }
                     Err(Memory) => agree = false,
                 }
+                let start = Instant::now(rt)?;
+                match validate(alloc, tree) {
+                    Ok(_) => validating = validating.min(start.elapsed(rt)?),
+                    Err(_) => agree = false,
+                }
             }
             Err(_) => agree = false,
         }
@@ -39,7 +46,8 @@ pub fn all(rt: &HostRuntime, alloc: Global, file: &str) -> io::Result<()> {
     let size = bytes.len();
     report(rt, "read", size, reading)?;
     report(rt, "write", size, writing)?;
-    println!(rt; "{size} bytes, written as they were read: {agree}")
+    report(rt, "validate", size, validating)?;
+    println!(rt; "{size} bytes, valid, and written as they were read: {agree}")
 }
 
 fn report(rt: &impl Print, name: &str, size: usize, time: Duration) -> io::Result<()> {

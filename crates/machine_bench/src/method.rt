@@ -1,0 +1,55 @@
+//! One method of a module, run once.
+ghost use Rattle.std.specs.Prelude.{◌≡◌, []};
+ghost use Rattle.wasm_machine.specs.Ran.{IsCallable};
+ghost use Rattle.wasm_instance.specs.Fits.{IsInstanceOf};
+ghost use Rattle.wasm_instance.specs.Views.{standing, kept};
+
+use canister_host::Interface;
+use ic0_world::{ExecutionKind, World};
+use mo_num::{Bytes, Memory, Principal, Sequence};
+use module_entries::imported_functions;
+use page_store::Pages;
+use std::alloc::Global;
+use wasm_instance::{Instance, Outcome};
+use wasm_valid::Valid;
+
+// An update call by nobody, with an empty argument.
+fn new_world(alloc: Global, nobody: &Principal) -> Result<World, Memory> {
+    Ok(World {
+        kind: ExecutionKind::Update,
+        own: nobody.copy(),
+        caller: nobody.copy(),
+        argument: Bytes::new(alloc),
+        reject_code: 0,
+        reject_text: Bytes::new(alloc),
+        answered: false,
+        open_before: 0,
+        reply_data: Bytes::new(alloc),
+        answer: None,
+        prepared: None,
+        performed: Sequence::new(alloc),
+        prints: Sequence::new(alloc),
+        stable: Pages::new(alloc, 16)?,
+        stable_refused: false,
+        trap_text: Bytes::new(alloc),
+    })
+}
+
+/// Runs the function on what the instance keeps, as an execution of its own.
+pub fn run(
+    alloc: Global,
+    tree: &Valid,
+    instance: &mut Instance,
+    function: u32,
+    nobody: &Principal,
+) -> Result<Outcome, Memory>
+    requires fits { IsInstanceOf tree.now (kept instance.old) }
+    requires callable { IsCallable tree.now function [] }
+    ensures kept { kept instance.new ≡ kept instance.old }
+{
+    let functions = imported_functions(alloc, tree)?;
+    let mut host = Interface::new(alloc, functions, new_world(alloc, nobody)?);
+    instance.restore();
+    instance.begin();
+    Ok(instance.run(tree, function, &[], &mut host))
+}
