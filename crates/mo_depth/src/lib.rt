@@ -1,0 +1,12 @@
+//! The depth of tokens: how deep brackets nest, and how many tokens stand in them.
+#![tactic(auto)]
+
+mod deep;
+mod frame;
+mod nesting;
+mod role;
+mod steps;
+
+pub use deep::{MOST, first_deep};
+pub use frame::Frame;
+pub use role::Role;

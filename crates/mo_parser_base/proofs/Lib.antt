@@ -1,0 +1,4 @@
+pub mod Exact
+pub mod Made
+pub mod Steps
+pub mod Turns
