@@ -1,0 +1,4 @@
+pub mod Angles
+pub mod Parts
+pub mod Layer
+pub mod Whole

@@ -1,0 +1,4 @@
+pub mod Ends
+pub mod Generics
+pub mod Nests
+pub mod Types
