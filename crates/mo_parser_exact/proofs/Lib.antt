@@ -1,0 +1,14 @@
+pub mod Blocks
+pub mod Bodies
+pub mod Chains
+pub mod Declarations
+pub mod Declared
+pub mod Depths
+pub mod Expressions
+pub mod Found
+pub mod Levels
+pub mod Members
+pub mod Operands
+pub mod Operations
+pub mod StepsMore
+pub mod Words

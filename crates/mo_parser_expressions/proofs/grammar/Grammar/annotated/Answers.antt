@@ -1,0 +1,29 @@
+use Rattle.std.proofs.Common.{rules, arith}
+use Rattle.std.proofs.lemmas.Grind.{common_steps}
+use Rattle.mo_parser_base.proofs.Turns.{one_more, no_more}
+use Rattle.mo_parser_expressions.specs.Expressions.{annotated, annotations, expression_at, declaration_at}
+use Rattle.mo_parser_expressions.proofs.grammar.Grammar.annotated.Goals as goal
+
+pub returns-then-not-eat_mark : goal.returns-then-not-eat_mark
+unfolding annotations
+returns-then-not-eat_mark g c =
+    let e = one_more (λ n. annotations (expression_at c.args.self.now.depth) (declaration_at c.args.self.now.depth) n c.loop-turn.a c.loop-turn.tokens) _ c.loop-turn._turn c.loop-turn-test.true c.loop-turn.invariant in
+    first_of (search rules, grind (arith, common_steps))
+
+pub returns-in_err-kind : goal.returns-in_err-kind
+unfolding annotations
+returns-in_err-kind g c =
+    let e = one_more (λ n. annotations (expression_at c.args.self.now.depth) (declaration_at c.args.self.now.depth) n c.loop-turn.a c.loop-turn.tokens) _ c.loop-turn._turn c.loop-turn-test.true c.loop-turn.invariant in
+    first_of (search rules, grind (arith, common_steps))
+
+pub loop-turn-preserved : goal.loop-turn-preserved
+unfolding annotations
+loop-turn-preserved g c =
+    let e = one_more (λ n. annotations (expression_at c.args.self.now.depth) (declaration_at c.args.self.now.depth) n c.loop-turn.a c.loop-turn.tokens) _ c.loop-turn._turn c.loop-turn-test.true c.loop-turn.invariant in
+    first_of (search rules, grind (arith, common_steps))
+
+pub returns : goal.returns
+unfolding annotations
+returns g c =
+    let e = no_more (λ n. annotations (expression_at c.args.self.now.depth) (declaration_at c.args.self.now.depth) n c.loop-turn.a c.loop-turn.tokens) _ c.loop-turn._turn c.loop-turn-test.false c.loop-turn.invariant in
+    first_of (search rules, grind (arith, common_steps))

@@ -1,0 +1,5 @@
+pub mod Fields
+pub mod Functions
+pub mod Imports
+pub mod Prefixes
+pub mod Programs
