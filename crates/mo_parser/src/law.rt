@@ -1,0 +1,7 @@
+//! What the grammar leaves no choice in.
+ghost use Rattle.mo_parser.specs.Answers.{OneTree};
+
+/// A law, and no step of the parser: two trees that spell the same tokens are equal, but for the places that they carry.
+pub fn one_tree()
+    ensures { OneTree }
+{}
