@@ -1,0 +1,13 @@
+pub mod BesideLemmas
+pub mod ByteLemmas
+pub mod ChainLemmas
+pub mod NeedLemmas
+pub mod NumeralLemmas
+pub mod TaggedExpressions
+pub mod TaggedLemmas
+pub mod TaggedPatterns
+pub mod TaggedPrograms
+pub mod TaggedTypes
+pub mod TextLemmas
+pub mod TokenLemmas
+pub mod WordLemmas
