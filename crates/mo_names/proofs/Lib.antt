@@ -1,0 +1,3 @@
+pub mod Scoping
+pub mod Cases
+pub mod Breaking

@@ -1,0 +1,6 @@
+use Rattle.std.proofs.Common.{◌≡◌, drop}
+use Rattle.mo_names.specs.Rules.{digits_and_mark}
+use Rattle.mo_names.proofs.names.digits_and_mark.Given as goal
+
+abbrev pub invariant-loop-index : goal.invariant-loop-index
+invariant-loop-index l = digits_and_mark l.name ≡ digits_and_mark (drop l.index l.name)

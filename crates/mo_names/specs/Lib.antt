@@ -1,0 +1,9 @@
+pub mod Judged
+pub mod Rules
+pub mod Scopes
+pub mod TypeRules
+pub mod PatternRules
+pub mod ExpressionRules
+pub mod ProgramRules
+pub mod Order
+pub mod Bound

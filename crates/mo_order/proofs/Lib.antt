@@ -1,0 +1,5 @@
+pub mod Folded
+pub mod Having
+pub mod Calling
+pub mod Growing
+pub mod Faults

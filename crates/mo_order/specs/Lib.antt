@@ -1,0 +1,4 @@
+pub mod Parts
+pub mod Judged
+pub mod Reach
+pub mod Fault

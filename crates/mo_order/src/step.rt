@@ -1,0 +1,167 @@
+//! Declarations as the test of order sees them: the names that they define and use.
+ghost use Rattle.std.specs.Prelude.{◌≡◌, ◌++◌, ◌∷◌, [], OnOk, IfOk, List, ℕ};
+ghost use Rattle.std.specs.List.{flat_map};
+ghost use Rattle.mo_names.specs.Rules.{contains};
+ghost use Rattle.mo_names.specs.Order.{Step, without, names_of_steps};
+ghost use Rattle.mo_order.specs.Parts.{occurring};
+
+use mo_num::{Memory, Sequence};
+use mo_syntax::Name;
+use std::alloc::Global;
+use std::marker::Model;
+
+/// A list of names with their places.
+pub(crate) type Names = Sequence<Name>;
+
+/// A list of declarations.
+pub(crate) type Steps = Sequence<Step>;
+
+/// The lists of declarations of a tree.
+pub(crate) type Lists = Sequence<Steps>;
+
+/// A declaration: the `let`, `var` and `object` names that it defines, the `func` or `class` that it is, and the names that occur in it.
+#[derive(Drop)]
+pub(crate) struct Step {
+    defines: Names,
+    functions: Names,
+    occurs: Names,
+}
+
+impl Model for Step {
+    ghost use Rattle.mo_names.specs.Order as order;
+
+    ghost Value = { order.Step };
+
+    ghost view = { λ s. record { defines = s.defines; functions = s.functions; occurs = s.occurs } };
+}
+
+impl Step {
+    pub(crate) fn new(defines: Names, functions: Names, occurs: Names) -> Self
+        ensures { result ≡ record { defines = defines; functions = functions; occurs = occurs } }
+    {
+        Step {
+            defines,
+            functions,
+            occurs,
+        }
+    }
+
+    pub(crate) fn defines(&self) -> &[Name]
+        ensures { result.now ≡ self.now.defines }
+    {
+        self.defines.as_slice()
+    }
+
+    pub(crate) fn functions(&self) -> &[Name]
+        ensures { result.now ≡ self.now.functions }
+    {
+        self.functions.as_slice()
+    }
+
+    pub(crate) fn occurs(&self) -> &[Name]
+        ensures { result.now ≡ self.now.occurs }
+    {
+        self.occurs.as_slice()
+    }
+}
+
+/// Adds the other items at the end.
+pub(crate) fn append<T: Drop>(list: &mut Sequence<T>, more: Sequence<T>) -> Result<(), Memory>
+    ensures { OnOk result (list.new ≡ list.old ++ more) }
+{
+    for item in more.into_vec() {
+        list.push(item)?;
+    }
+    Ok(())
+}
+
+/// Adds a copy of a name.
+pub(crate) fn push_copy(alloc: Global, names: &mut Names, name: &Name) -> Result<(), Memory>
+    ensures { OnOk result (names.new ≡ names.old ++ name.now ∷ []) }
+{
+    let copy = Name::new(alloc, name.place(), name.as_slice())?;
+    names.push(copy)
+}
+
+/// Adds copies of names.
+pub(crate) fn push_copies(alloc: Global, names: &mut Names, more: &[Name]) -> Result<(), Memory>
+    ensures { OnOk result (names.new ≡ names.old ++ more.now) }
+{
+    for one in more {
+        push_copy(alloc, names, one)?;
+    }
+    Ok(())
+}
+
+/// The list of one name.
+pub(crate) fn one_name(alloc: Global, name: &Name) -> Result<Names, Memory>
+    ensures { IfOk result (λ made. made ≡ name.now ∷ []) }
+{
+    let mut names = Sequence::new(alloc);
+    push_copy(alloc, &mut names, name)?;
+    Ok(names)
+}
+
+/// Whether the name is one of these.
+pub(crate) fn contains(names: &[Name], name: &Name) -> bool
+    ensures { result ≡ contains names.now name.now }
+{
+    for one in names {
+        if name.same(one) {
+            return true;
+        }
+    }
+    false
+}
+
+fn push_unless(alloc: Global, names: &mut Names, bound: &[Name], name: &Name) -> Result<(), Memory>
+    ensures { OnOk result (names.new ≡ names.old ++ without bound.now (name.now ∷ [])) }
+{
+    if contains(bound, name) {
+        Ok(())
+    } else {
+        push_copy(alloc, names, name)
+    }
+}
+
+/// Adds copies of the names that are not bound.
+pub(crate) fn push_without(
+    alloc: Global,
+    names: &mut Names,
+    bound: &[Name],
+    more: &[Name],
+) -> Result<(), Memory>
+    ensures { OnOk result (names.new ≡ names.old ++ without bound.now more.now) }
+{
+    for one in more {
+        push_unless(alloc, names, bound, one)?;
+    }
+    Ok(())
+}
+
+/// The names that the declarations of a list give meanings.
+pub(crate) fn names_of_steps(alloc: Global, steps: &[Step]) -> Result<Names, Memory>
+    ensures { IfOk result (λ made. made ≡ names_of_steps steps.now) }
+{
+    let mut names = Sequence::new(alloc);
+    for one in steps {
+        push_copies(alloc, &mut names, one.defines())?;
+        push_copies(alloc, &mut names, one.functions())?;
+    }
+    Ok(names)
+}
+
+/// Adds the names that occur in the declarations and aren't bound.
+pub(crate) fn push_occurring(
+    alloc: Global,
+    names: &mut Names,
+    bound: &[Name],
+    steps: &[Step],
+) -> Result<(), Memory>
+    ensures { OnOk result (names.new ≡ names.old ++ without bound.now (occurring steps.now)) }
+{
+    for one in steps {
+        push_without(alloc, names, bound, one.occurs())?;
+    }
+    Ok(())
+}
