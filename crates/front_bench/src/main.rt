@@ -3,6 +3,8 @@
 
 mod measure;
 mod source;
+#[cfg(test)]
+mod source_tests;
 
 use std::{env, io};
 

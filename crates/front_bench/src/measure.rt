@@ -1,6 +1,7 @@
-//! Rounds of lexing, by the clock.
+//! Rounds of lexing and parsing, by the clock.
 use crate::source::large_source;
 use mo_lexer::lex;
+use mo_parser::parse;
 use std::alloc::Global;
 use std::io;
 use std::io::ErrorKind;
@@ -14,17 +15,23 @@ const TRIES: u32 = 10;
 pub fn all(rt: &(impl Clock + Print), alloc: Global) -> io::Result<()> {
     let source = large_source(alloc).map_err(|_| io::Error::from(ErrorKind::OutOfMemory))?;
     let mut lexing = Duration::MAX;
+    let mut parsing = Duration::MAX;
     let mut count = 0;
     for _ in 0..TRIES {
         let start = Instant::now(rt)?;
         if let Ok(tokens) = lex(alloc, source.as_slice()) {
             lexing = lexing.min(start.elapsed(rt)?);
             count = tokens.len();
+            let start = Instant::now(rt)?;
+            if parse(alloc, tokens.as_slice()).is_ok() {
+                parsing = parsing.min(start.elapsed(rt)?);
+            }
         }
     }
     let size = source.len();
     println!(rt; "{size} bytes, {count} tokens")?;
-    report(rt, "lex", size, lexing)
+    report(rt, "lex", size, lexing)?;
+    report(rt, "parse", size, parsing)
 }
 
 fn report(rt: &impl Print, name: &str, size: usize, time: Duration) -> io::Result<()> {
