@@ -1,7 +1,7 @@
 //! The functions of `ic0` as the imports of a module.
 use ic0_world::{CallEnd, Ic0, World};
 use mo_num::Sequence;
-use page_store::Pages;
+use page_store::KeptPages;
 use std::alloc::Global;
 use wasm_machine::{Host, HostEnd};
 
@@ -48,13 +48,10 @@ impl Host for Interface {
         &mut self,
         function: u32,
         args: &[u64],
-        memory: &mut Pages,
+        memory: &mut KeptPages,
     ) -> Result<Option<u64>, HostEnd> {
         let function = self.functions.as_slice()[function as usize];
-        match self
-            .world
-            .call(self.alloc, function, args, memory.bytes_mut())
-        {
+        match self.world.call(self.alloc, function, args, memory) {
             Ok(result) => Ok(result),
             Err(CallEnd::Trap) => Err(HostEnd::Trap),
             Err(CallEnd::Memory) => {

@@ -1,5 +1,5 @@
 //! What each function of `ic0` does.
-ghost use Rattle.std.specs.Prelude.{◌≡◌, ◌+◌, ◌++◌, ◌∷◌, ◌<◌, nat_le, MatchOption, List, [], ℕ, Ok, Err, Some, None, true, false};
+ghost use Rattle.std.specs.Prelude.{◌≡◌, ◌+◌, ◌++◌, ◌∷◌, ◌<◌, nat_le, MatchOption, length, List, [], ℕ, Ok, Err, Some, None, true, false};
 ghost use Rattle.std.specs.List.{list_all};
 ghost use Rattle.std.specs.Str.{is_utf8};
 ghost use Rattle.ic0_world.specs.Act as act;
@@ -8,6 +8,7 @@ ghost use Rattle.ic0_world.specs.Act.{Does, Copied, Gives};
 use crate::memory::{copy, range};
 use crate::{Answer, Callback, Ic0, OutgoingCall, World};
 use mo_num::{Bytes, Memory, principal_of};
+use page_store::KeptPages;
 use std::alloc::Global;
 use std::str;
 
@@ -68,23 +69,23 @@ fn callback_at(args: &[u64], place: usize) -> Callback
 }
 
 // The range of the memory whose place and size are the arguments from this place on.
-fn range_at<'a>(args: &[u64], place: usize, memory: &'a [u8]) -> Option<&'a [u8]>
+fn range_at<'a>(args: &[u64], place: usize, memory: &'a KeptPages) -> Option<&'a [u8]>
     requires { place < 8 }
-    ensures { MatchOption result (act.is_inside (act.at32 args.now place) (act.at32 args.now (place + 1)) memory.now ≡ false) (λ found. (act.is_inside (act.at32 args.now place) (act.at32 args.now (place + 1)) memory.now ≡ true) × (found.now ≡ act.range (act.at32 args.now place) (act.at32 args.now (place + 1)) memory.now)) }
+    ensures { MatchOption result (act.is_inside (act.at32 args.now place) (act.at32 args.now (place + 1)) memory.now.bytes ≡ false) (λ found. (act.is_inside (act.at32 args.now place) (act.at32 args.now (place + 1)) memory.now.bytes ≡ true) × (found.now ≡ act.range (act.at32 args.now place) (act.at32 args.now (place + 1)) memory.now.bytes)) }
 {
     range(
-        memory,
+        memory.bytes(),
         at32(args, place) as u64,
         at32(args, place + 1) as u64,
     )
 }
 
 // The same where both are of 64 bits.
-fn range64_at<'a>(args: &[u64], place: usize, memory: &'a [u8]) -> Option<&'a [u8]>
+fn range64_at<'a>(args: &[u64], place: usize, memory: &'a KeptPages) -> Option<&'a [u8]>
     requires { place < 8 }
-    ensures { MatchOption result (act.is_inside (act.at64 args.now place) (act.at64 args.now (place + 1)) memory.now ≡ false) (λ found. (act.is_inside (act.at64 args.now place) (act.at64 args.now (place + 1)) memory.now ≡ true) × (found.now ≡ act.range (act.at64 args.now place) (act.at64 args.now (place + 1)) memory.now)) }
+    ensures { MatchOption result (act.is_inside (act.at64 args.now place) (act.at64 args.now (place + 1)) memory.now.bytes ≡ false) (λ found. (act.is_inside (act.at64 args.now place) (act.at64 args.now (place + 1)) memory.now.bytes ≡ true) × (found.now ≡ act.range (act.at64 args.now place) (act.at64 args.now (place + 1)) memory.now.bytes)) }
 {
-    range(memory, at64(args, place), at64(args, place + 1))
+    range(memory.bytes(), at64(args, place), at64(args, place + 1))
 }
 
 // A size or a code as an i32, of which none has more bits.
@@ -127,9 +128,18 @@ fn are_visible(bytes: &[u8]) -> bool
 impl World {
     /// Calls the function with its arguments in order, over the memory of the canister: where it is allowed it does what
     /// it does, and else the execution traps.
-    pub fn call(&mut self, alloc: Global, function: Ic0, args: &[u64], memory: &mut [u8]) -> Called
-        ensures does { Does (act.call function args.now memory.old self.old) result memory.new self.new }
+    pub fn call(
+        &mut self,
+        alloc: Global,
+        function: Ic0,
+        args: &[u64],
+        memory: &mut KeptPages,
+    ) -> Called
+        ensures does { Does (act.call function args.now memory.old.bytes self.old) result memory.new.bytes self.new }
         ensures unchanged { result ≡ Err CallEnd.Trap → memory.new ≡ memory.old }
+        ensures size { length memory.new.bytes ≡ length memory.old.bytes }
+        ensures kept { memory.new.kept ≡ memory.old.kept }
+        ensures limit { memory.new.limit ≡ memory.old.limit }
     {
         if self.kind.allows(function) {
             self.act(alloc, function, args, memory)
@@ -138,9 +148,12 @@ impl World {
         }
     }
 
-    fn act(&mut self, alloc: Global, function: Ic0, args: &[u64], memory: &mut [u8]) -> Called
-        ensures does { Does (act.act function args.now memory.old self.old) result memory.new self.new }
+    fn act(&mut self, alloc: Global, function: Ic0, args: &[u64], memory: &mut KeptPages) -> Called
+        ensures does { Does (act.act function args.now memory.old.bytes self.old) result memory.new.bytes self.new }
         ensures unchanged { result ≡ Err CallEnd.Trap → memory.new ≡ memory.old }
+        ensures size { length memory.new.bytes ≡ length memory.old.bytes }
+        ensures kept { memory.new.kept ≡ memory.old.kept }
+        ensures limit { memory.new.limit ≡ memory.old.limit }
     {
         let (first, second, third) = (at32(args, 0), at32(args, 1), at32(args, 2));
         match function {
@@ -308,8 +321,8 @@ impl World {
         self.answer(alloc, Answer::Rejected(CANISTER_REJECT, text))
     }
 
-    fn new_call(&mut self, alloc: Global, args: &[u64], memory: &[u8]) -> Called
-        ensures { Does (act.act Ic0.CallNew args.now memory.now self.old) result memory.now self.new }
+    fn new_call(&mut self, alloc: Global, args: &[u64], memory: &KeptPages) -> Called
+        ensures { Does (act.act Ic0.CallNew args.now memory.now.bytes self.old) result memory.now.bytes self.new }
     {
         let Some(callee) = range_at(args, 0, memory) else {
             return Err(self.misuse(alloc));
@@ -412,13 +425,7 @@ impl World {
     fn write_stable(&mut self, alloc: Global, offset: u64, these: &[u8]) -> Called
         ensures { (memory : List ℕ) → Does (act.write_stable offset these.now memory self.old) result memory self.new }
     {
-        if copy(
-            these,
-            offset,
-            0,
-            these.len() as u64,
-            self.stable.bytes_mut(),
-        ) {
+        if self.stable.write(offset, these) {
             Ok(None)
         } else {
             Err(self.misuse(alloc))

@@ -1,7 +1,9 @@
 //! Ranges of memories.
-ghost use Rattle.std.specs.Prelude.{◌≡◌, ◌+◌, nat_le, length, true, false, MatchOption};
+ghost use Rattle.std.specs.Prelude.{◌≡◌, ◌+◌, nat_le, length, true, false, IsFalse, MatchOption};
 ghost use Rattle.ic0_world.specs.Act as act;
 ghost use Rattle.ic0_world.specs.Act.{Copied};
+
+use page_store::KeptPages;
 
 // Whether a range lies inside so many bytes. One of size 0 that begins at the end does.
 fn is_inside(place: u64, size: u64, len: usize) -> bool
@@ -23,18 +25,15 @@ pub fn range(bytes: &[u8], place: u64, size: u64) -> Option<&[u8]>
 }
 
 /// Writes the range of the data to a place of the memory, if both lie inside; else nothing is written.
-pub fn copy(bytes: &[u8], destination: u64, offset: u64, size: u64, memory: &mut [u8]) -> bool
-    ensures { Copied result destination offset size bytes.now memory.old memory.new }
+pub fn copy(bytes: &[u8], destination: u64, offset: u64, size: u64, memory: &mut KeptPages) -> bool
+    ensures copied { Copied result destination offset size bytes.now memory.old.bytes memory.new.bytes }
+    ensures unchanged { IsFalse result → memory.new ≡ memory.old }
+    ensures size { length memory.new.bytes ≡ length memory.old.bytes }
+    ensures kept { memory.new.kept ≡ memory.old.kept }
+    ensures limit { memory.new.limit ≡ memory.old.limit }
 {
-    if !is_inside(destination, size, memory.len()) {
-        return false;
-    }
     match range(bytes, offset, size) {
-        Some(from) => {
-            let destination = destination as usize;
-            memory[destination..destination + size as usize].copy_from_slice(from);
-            true
-        }
+        Some(from) => memory.write(destination, from),
         None => false,
     }
 }

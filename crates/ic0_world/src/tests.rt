@@ -1,7 +1,7 @@
 // Each function at its edges. The expected values are written out from the interface specification.
 use super::*;
 use mo_num::{Bytes, Memory, Principal, Sequence, principal_of};
-use page_store::Pages;
+use page_store::{KeptPages, Pages};
 use std::alloc::{AllocError, Global};
 use std::test::Fail;
 
@@ -92,20 +92,28 @@ fn each_function_is_allowed_in_its_column(rt: HostRuntime) -> Result<(), Fail> {
     Ok(())
 }
 
+// A memory of one page that begins with these bytes.
+fn memory_with(alloc: Global, bytes: &[u8]) -> Result<KeptPages, AllocError> {
+    let mut memory = KeptPages::new(alloc, 1)?;
+    let _ = memory.grow(1);
+    let _ = memory.write(0, bytes);
+    Ok(memory)
+}
+
 #[test]
 fn ranges_end_where_the_memory_ends(rt: HostRuntime) -> Result<(), Fail> {
     let alloc = rt.alloc();
     let mut world = world(alloc, ExecutionKind::Update)?;
-    let mut memory = [0u8; 10];
+    let mut memory = memory_with(alloc, b"")?;
     let size = world.call(alloc, Ic0::MsgArgDataSize, &[], &mut memory);
     assert_eq!(rt; size, Ok(Some(8)));
     // Destination, offset, size, and whether both ranges lie inside.
     let copies = [
-        ([2, 0, 8], true),
-        ([3, 0, 8], false),
+        ([65_528, 0, 8], true),
+        ([65_529, 0, 8], false),
         ([0, 8, 0], true),
-        ([10, 0, 0], true),
-        ([11, 0, 0], false),
+        ([65_536, 0, 0], true),
+        ([65_537, 0, 0], false),
         ([0, 9, 0], false),
         ([0, 7, 2], false),
         ([0, 4_294_967_295, 1], false),
@@ -118,7 +126,7 @@ fn ranges_end_where_the_memory_ends(rt: HostRuntime) -> Result<(), Fail> {
             assert!(rt; is_misuse(&world, end), "{args:?}");
         }
     }
-    assert_eq!(rt; memory.as_slice(), b"\0\0argument".as_slice());
+    assert!(rt; memory.bytes().ends_with(b"\0\0argument"));
     Ok(())
 }
 
@@ -126,7 +134,7 @@ fn ranges_end_where_the_memory_ends(rt: HostRuntime) -> Result<(), Fail> {
 fn a_call_is_answered_once(rt: HostRuntime) -> Result<(), Fail> {
     let alloc = rt.alloc();
     let mut world = world(alloc, ExecutionKind::Update)?;
-    let mut memory = *b"ab\xff";
+    let mut memory = memory_with(alloc, b"ab\xff")?;
     let text = world.call(alloc, Ic0::MsgReject, &[1, 2], &mut memory);
     assert!(rt; is_misuse(&world, text), "a text that is not UTF-8");
     assert_eq!(rt;
@@ -160,8 +168,8 @@ fn a_call_is_answered_once(rt: HostRuntime) -> Result<(), Fail> {
 fn calls_are_prepared_and_performed(rt: HostRuntime) -> Result<(), Fail> {
     let alloc = rt.alloc();
     let mut world = world(alloc, ExecutionKind::Update)?;
-    let mut memory = [b'm'; 40];
-    memory[39] = b' ';
+    let mut memory = memory_with(alloc, &[b'm'; 40])?;
+    let _ = memory.write(39, b" ");
     for function in [Ic0::CallOnCleanup, Ic0::CallDataAppend, Ic0::CallPerform] {
         let end = world.call(alloc, function, &[0, 0], &mut memory);
         assert!(rt; is_misuse(&world, end), "{function:?} before a call");
@@ -221,7 +229,7 @@ fn calls_are_prepared_and_performed(rt: HostRuntime) -> Result<(), Fail> {
 fn stable_memory_has_a_limit(rt: HostRuntime) -> Result<(), Fail> {
     let alloc = rt.alloc();
     let mut world = world(alloc, ExecutionKind::Start)?;
-    let mut memory = *b"abc";
+    let mut memory = memory_with(alloc, b"abc")?;
     assert_eq!(rt;
         world.call(alloc, Ic0::StableGrow, &[2], &mut memory),
         Ok(Some(0))
@@ -246,7 +254,7 @@ fn stable_memory_has_a_limit(rt: HostRuntime) -> Result<(), Fail> {
         world.call(alloc, Ic0::StableRead, &[1, 131_069, 2], &mut memory),
         Ok(None)
     );
-    assert_eq!(rt; memory.as_slice(), b"aab".as_slice());
+    assert!(rt; memory.bytes().starts_with(b"aab\0"));
     let far = world.call(alloc, Ic0::StableRead, &[0, u64::MAX, 1], &mut memory);
     assert!(rt; is_misuse(&world, far), "a range that ends past 2^64");
     Ok(())
@@ -256,7 +264,7 @@ fn stable_memory_has_a_limit(rt: HostRuntime) -> Result<(), Fail> {
 fn prints_and_traps(rt: HostRuntime) -> Result<(), Fail> {
     let alloc = rt.alloc();
     let mut world = world(alloc, ExecutionKind::Cleanup)?;
-    let mut memory = *b"abc";
+    let mut memory = memory_with(alloc, b"abc")?;
     assert_eq!(rt;
         world.call(alloc, Ic0::DebugPrint, &[1, 2], &mut memory),
         Ok(None)

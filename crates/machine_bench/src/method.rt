@@ -1,5 +1,6 @@
 //! One method of a module, run once.
-ghost use Rattle.std.specs.Prelude.{◌≡◌, []};
+ghost use Rattle.std.specs.Prelude.{◌≡◌, [], IfOk};
+ghost use Rattle.machine_bench.specs.Run.{RunsAlone};
 ghost use Rattle.wasm_machine.specs.Ran.{IsCallable};
 ghost use Rattle.wasm_instance.specs.Fits.{IsInstanceOf};
 ghost use Rattle.wasm_instance.specs.Views.{standing, kept};
@@ -14,7 +15,10 @@ use wasm_instance::{Instance, Outcome};
 use wasm_valid::Valid;
 
 // An update call by nobody, with an empty argument.
-fn new_world(alloc: Global, nobody: &Principal) -> Result<World, Memory> {
+fn new_world(alloc: Global, nobody: &Principal) -> Result<World, Memory>
+    ensures kind { IfOk result (λ world. world.kind ≡ ExecutionKind.Update) }
+    ensures argument { IfOk result (λ world. world.argument ≡ []) }
+{
     Ok(World {
         kind: ExecutionKind::Update,
         own: nobody.copy(),
@@ -45,7 +49,9 @@ pub fn run(
 ) -> Result<Outcome, Memory>
     requires fits { IsInstanceOf tree.now (kept instance.old) }
     requires callable { IsCallable tree.now function [] }
+    ensures ran { IfOk result (λ outcome. RunsAlone tree.now function instance.old instance.new outcome) }
     ensures kept { kept instance.new ≡ kept instance.old }
+    ensures limits { instance.new.limits ≡ instance.old.limits }
 {
     let functions = imported_functions(alloc, tree)?;
     let mut host = Interface::new(alloc, functions, new_world(alloc, nobody)?);

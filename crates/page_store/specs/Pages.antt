@@ -1,6 +1,5 @@
 -- A linear memory: a memory instance of WebAssembly Core 1.0, section 4.2.8.
-use Rattle.std.specs.Prelude.{◌≡◌, ℕ, zero, suc, ◌+◌, ◌*◌, ◌/◌, ◌%◌, ◌≤◌, List, length, take, drop, replicate, max, if◌then◌else◌}
-use Rattle.std.specs.List.{refill}
+use Rattle.std.specs.Prelude.{◌≡◌, ℕ, zero, suc, ◌+◌, ◌*◌, ◌/◌, ◌%◌, ◌<◌, ◌≤◌, ◌++◌, ◌⊎◌, Bool, true, false, List, length, take, drop, replicate, max, slice_index_or, if◌then◌else◌}
 use Rattle.std.specs.Str.{bytes_eq}
 
 -- the bytes of a page
@@ -12,6 +11,16 @@ pub record LinearMemory : Type 0 where
   pub limit : ℕ
   pub bytes : List ℕ
 
+-- a linear memory, with its bytes at the last commit
+pub record KeptMemory : Type 0 where
+  pub limit : ℕ
+  pub bytes : List ℕ
+  pub kept : List ℕ
+
+-- the memory as it stands
+abbrev pub live : KeptMemory → LinearMemory
+live memory = record { limit = memory.limit; bytes = memory.bytes }
+
 -- so many bytes are whole pages within the limit, which is one that the standard's memory types allow
 pub record IsPaged (limit len : ℕ) : Type 0 where
   pub whole : len % page_bytes ≡ 0
@@ -22,9 +31,9 @@ pub record IsPaged (limit len : ℕ) : Type 0 where
 abbrev pub page_count : LinearMemory → ℕ
 page_count memory = length memory.bytes / page_bytes
 
--- the memory with these bytes in place of its own. Their number stays: they are cut, or filled up from its own
-abbrev pub with_bytes : LinearMemory → List ℕ → LinearMemory
-with_bytes memory written = record memory { bytes = refill (length memory.bytes) memory.bytes written }
+-- the bytes with these in place of those from a place on
+abbrev pub overwritten : ℕ → List ℕ → List ℕ → List ℕ
+overwritten place these bytes = take place bytes ++ these ++ drop (place + length these) bytes
 
 -- so many pages of zeros, as growing adds them (section 4.5.3)
 unfoldable pub zero_pages : ℕ → List ℕ
@@ -33,6 +42,14 @@ zero_pages pages = replicate (pages * page_bytes) 0
 -- the bytes of page n, none where it is past the end
 unfoldable pub page_at : List ℕ → ℕ → List ℕ
 page_at bytes n = take page_bytes (drop (n * page_bytes) bytes)
+
+-- a page without a mark has the same bytes in both, none where it is past both ends
+pub record AreMarked (marks : List Bool) (bytes kept : List ℕ) : Type 0 where
+  pub same : (page : ℕ) → slice_index_or marks page true ≡ false → page_at bytes page ≡ page_at kept page
+
+-- the pages from one up to another are marked besides those that were
+pub record HasMarked (first end : ℕ) (old new : List Bool) : Type 0 where
+  pub others : (page : ℕ) → slice_index_or new page true ≡ false → (slice_index_or old page true ≡ false) × ((page < first) ⊎ (end ≤ page))
 
 -- how many of the first n pages differ: one that only one list has differs too
 unfoldable pub differing_pages : List ℕ → List ℕ → ℕ → ℕ

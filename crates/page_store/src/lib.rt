@@ -2,9 +2,12 @@
 #![tactic(auto)]
 
 mod committed;
+mod kept_pages;
+mod marks;
 mod pages;
 #[cfg(test)]
 mod tests;
 
 pub use committed::Committed;
+pub use kept_pages::KeptPages;
 pub use pages::{PAGE, Pages};

@@ -1,8 +1,6 @@
 //! A linear memory of pages of 65,536 bytes.
-ghost use Rattle.std.specs.Prelude.{◌≡◌, ◌+◌, ◌*◌, ◌%◌, ◌<◌, ◌≤◌, ◌↔◌, ◌++◌, [], length, IfOk, IsTrue, IsNone, IfNone, IfSome, OnSome};
-ghost use Rattle.std.specs.Borrow.{Lends, Array, sem, u8};
-ghost use Rattle.page_store.specs.Pages.{IsPaged, page_at, page_bytes, page_count, with_bytes, zero_pages};
-ghost use Rattle.page_store.specs.contracts.pages.Pages.{the_row};
+ghost use Rattle.std.specs.Prelude.{◌≡◌, ◌+◌, ◌*◌, ◌%◌, ◌<◌, ◌≤◌, ◌↔◌, ◌++◌, [], length, IfOk, IsTrue, IsNone, IfNone, IfSome, OnSome, nat_le, if◌then◌else◌};
+ghost use Rattle.page_store.specs.Pages.{AreMarked, IsPaged, overwritten, page_at, page_bytes, page_count, zero_pages};
 
 use byte_lanes::first_difference;
 use std::alloc::{AllocError, Global};
@@ -83,13 +81,20 @@ impl Pages {
         self.bytes.as_slice()
     }
 
-    /// The bytes of all pages, to be written. Their number stays.
-    pub fn bytes_mut(&mut self) -> &mut [u8]
-        ensures* written { sem 𝓛 (Lends the_row (Array u8 0) self.entry result (with_bytes self.old)) }
-        ensures value { result.now ≡ self.old.bytes }
+    /// Writes these bytes from the place on, and gives whether all of them lie in the memory; else nothing is written.
+    #[inline(always)]
+    pub fn write(&mut self, place: u64, these: &[u8]) -> bool
+        ensures inside { result ≡ nat_le (place + length these.now) (length self.old.bytes) }
+        ensures written { self.new ≡ (if result then record self.old { bytes = overwritten place these.now self.old.bytes } else self.old) }
         ensures paged { IsPaged self.old.limit (length self.old.bytes) }
     {
-        self.bytes.as_mut_slice()
+        let len = self.bytes.len();
+        if these.len() > len || place > (len - these.len()) as u64 {
+            return false;
+        }
+        let start = place as usize;
+        self.bytes.as_mut_slice()[start..start + these.len()].copy_from_slice(these);
+        true
     }
 
     // Takes on the size and the bytes of the other memory. Only pages that differ are written.
@@ -103,6 +108,41 @@ impl Pages {
         self.bytes
             .extend_from_slice(&other.bytes.as_slice()[shared..])
             .unwrap();
+    }
+
+    // The same, where each page without a mark is the same in both. Only pages with a mark are written.
+    pub(crate) fn copy_marked(&mut self, other: &Pages, marks: &[bool])
+        requires limit { self.old.limit ≡ other.now.limit }
+        requires marks { length marks.now ≡ other.now.limit }
+        requires marked { AreMarked marks.now other.now.bytes self.old.bytes }
+        ensures { self.new ≡ other.now }
+    {
+        self.bytes.truncate(other.bytes.len());
+        let shared = self.bytes.len();
+        copy_marked_pages(
+            &other.bytes.as_slice()[..shared],
+            self.bytes.as_mut_slice(),
+            marks,
+        );
+        self.bytes
+            .extend_from_slice(&other.bytes.as_slice()[shared..])
+            .unwrap();
+    }
+}
+
+// Writes each page with a mark over the other's. Both are of so many whole pages.
+fn copy_marked_pages(from: &[u8], to: &mut [u8], marks: &[bool])
+    requires same_len { length from.now ≡ length to.old }
+    requires whole { length from.now % page_bytes ≡ 0 }
+    requires enough { length from.now ≤ length marks.now * page_bytes }
+    requires marked { AreMarked marks.now from.now to.old }
+    ensures { to.new ≡ from.now }
+{
+    for page in 0..from.len() / PAGE {
+        if marks[page] {
+            let (start, end) = (page * PAGE, (page + 1) * PAGE);
+            to[start..end].copy_from_slice(&from[start..end]);
+        }
     }
 }
 

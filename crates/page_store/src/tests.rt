@@ -10,8 +10,8 @@ fn fill(pages: &mut Pages, seed: u8)
     ensures { pages.new.limit ≡ pages.old.limit }
 {
     let mut next = seed;
-    for byte in pages.bytes_mut().iter_mut() {
-        *byte = next;
+    for place in 0..pages.bytes().len() as u64 {
+        let _ = pages.write(place, &[next]);
         next = next.wrapping_mul(5).wrapping_add(7);
     }
 }
@@ -26,12 +26,10 @@ fn filled(alloc: Global, limit: u32, size: u32, seed: u8) -> Result<Pages, Alloc
     Ok(pages)
 }
 
-fn put(pages: &mut Pages, place: usize, byte: u8)
+fn put(pages: &mut Pages, place: u64, byte: u8)
     ensures { pages.new.limit ≡ pages.old.limit }
 {
-    if let Some(at) = pages.bytes_mut().get_mut(place) {
-        *at = byte;
-    }
+    let _ = pages.write(place, &[byte]);
 }
 
 fn resize(pages: &mut Pages, size: u32)

@@ -122,6 +122,8 @@ impl Instance {
         ensures standing { standing self.new ≡ standing self.old }
         ensures kept { kept self.new ≡ standing self.old }
         ensures limits { self.new.limits ≡ self.old.limits }
+        ensures left { self.new.left ≡ self.old.left }
+        ensures refused { self.new.was_refused ≡ self.old.was_refused }
     {
         self.store.commit();
     }
@@ -131,6 +133,8 @@ impl Instance {
         ensures standing { standing self.new ≡ kept self.old }
         ensures kept { kept self.new ≡ kept self.old }
         ensures limits { self.new.limits ≡ self.old.limits }
+        ensures left { self.new.left ≡ self.old.left }
+        ensures refused { self.new.was_refused ≡ self.old.was_refused }
     {
         self.store.restore();
     }
@@ -141,6 +145,8 @@ impl Instance {
         ensures fits { OnOk result (IsInstanceOf tree.now (standing self.new)) }
         ensures kept { kept self.new ≡ kept self.old }
         ensures limits { self.new.limits ≡ self.old.limits }
+        ensures left { self.new.left ≡ self.old.left }
+        ensures refused { self.new.was_refused ≡ self.old.was_refused }
     {
         self.store.load(tree.module())
     }

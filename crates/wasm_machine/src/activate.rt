@@ -9,7 +9,7 @@ ghost use Rattle.wasm_machine.specs.Acts.{Given, Parts, page_bound, parts, state
 ghost use Rattle.wasm_machine.specs.Active.{Active, next_of, EndHolds, EndLeft};
 
 use crate::advance::{Moved, advance};
-use page_store::Pages;
+use page_store::KeptPages;
 use wasm_steps::Step;
 use wasm_tree::Trap;
 
@@ -48,7 +48,7 @@ pub fn activate(
     stack: &mut [u64],
     locals: &mut [u64],
     globals: &mut [u64],
-    memory: &mut Pages,
+    memory: &mut KeptPages,
     refused: &mut bool,
 ) -> End
     requires some { Active steps.now (length stack.old) most start limit locals.old (parts memory.old.bytes globals.old refused.old) (tops stack.old count) }
@@ -57,6 +57,7 @@ pub fn activate(
     ensures held { EndHolds result (length stack.old) }
     ensures left { EndLeft result limit }
     ensures limit { memory.new.limit ≡ memory.old.limit }
+    ensures kept { memory.new.kept ≡ memory.old.kept }
     ensures ends { (g : Given) (calls : Calls Play) (frugal : Frugal calls) (height keep : ℕ) (whole : Final Play) → page_bound g ≡ most → Stands g.limits g.within calls steps.now (length locals.old) height keep whole start (state_of g limit locals.old (parts memory.old.bytes globals.old refused.old)) (tops stack.old count) → Good g.limits g.within calls steps.now (length locals.old) height keep whole (next_of g result locals.new (parts memory.new.bytes globals.new refused.new) (tops stack.new)) }
 {
     let mut place = start;

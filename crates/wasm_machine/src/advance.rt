@@ -7,7 +7,7 @@ ghost use Rattle.wasm_machine.specs.Acts.{Given, Parts, page_bound, parts, state
 
 use crate::memory::{grow, store_in};
 use crate::operands::{cut, is_zero, low32, put, second, select, table_label, third, top};
-use page_store::Pages;
+use page_store::KeptPages;
 use wasm_numeric::{binary, compare, convert, equals_zero, load, unary};
 use wasm_steps::{Label, Step};
 use wasm_tree::Trap;
@@ -110,7 +110,7 @@ fn take_step(
     stack: &mut [u64],
     locals: &mut [u64],
     globals: &mut [u64],
-    memory: &mut Pages,
+    memory: &mut KeptPages,
     refused: &mut bool,
 ) -> Moved
     requires place { place < length steps.now }
@@ -120,6 +120,7 @@ fn take_step(
     requires most { most ≤ memory.old.limit }
     ensures held { Holds result (length stack.old) }
     ensures limit { memory.new.limit ≡ memory.old.limit }
+    ensures kept { memory.new.kept ≡ memory.old.kept }
     ensures moves { (g : Given) → page_bound g ≡ most → Moves g (move_by g.limits g.within steps.now (Some step) place (state_of g (suc left) locals.old (parts memory.old.bytes globals.old refused.old)) (tops stack.old held)) result locals.new (parts memory.new.bytes globals.new refused.new) (tops stack.new) }
 {
     match step {
@@ -338,7 +339,7 @@ pub fn advance(
     stack: &mut [u64],
     locals: &mut [u64],
     globals: &mut [u64],
-    memory: &mut Pages,
+    memory: &mut KeptPages,
     refused: &mut bool,
 ) -> Moved
     requires place { place < length steps.now }
@@ -347,6 +348,7 @@ pub fn advance(
     requires most { most ≤ memory.old.limit }
     ensures held { Holds result (length stack.old) }
     ensures limit { memory.new.limit ≡ memory.old.limit }
+    ensures kept { memory.new.kept ≡ memory.old.kept }
     ensures moves { (g : Given) → page_bound g ≡ most → Moves g (move_by g.limits g.within steps.now (Some step) place (state_of g left locals.old (parts memory.old.bytes globals.old refused.old)) (tops stack.old held)) result locals.new (parts memory.new.bytes globals.new refused.new) (tops stack.new) }
 {
     if left == 0 {

@@ -8,7 +8,7 @@ ghost use Rattle.wasm_machine.specs.Asked.{Fitting, FitsResult, IfAsked};
 ghost use Rattle.wasm_machine.specs.Stacks.{AgreeBelow};
 
 use crate::host::{Host, HostEnd};
-use page_store::Pages;
+use page_store::KeptPages;
 
 // Puts one or no result into a cell, and gives how many there are.
 fn put_result(cells: &mut [u64], from: usize, given: Option<u64>) -> usize
@@ -35,7 +35,7 @@ pub fn ask<H: Host>(
     from: usize,
     params: usize,
     cells: &mut [u64],
-    memory: &mut Pages,
+    memory: &mut KeptPages,
 ) -> Result<usize, HostEnd>
     requires fitting { Fitting (H.types host.old) function (take params (drop from cells.old)) }
     requires within { from + params ≤ length cells.old }
@@ -45,6 +45,7 @@ pub fn ask<H: Host>(
     ensures few { IfOk result (λ many. (t : FunctionType) → slice_get (H.types host.old) function ≡ Some t → many ≡ length t.results) }
     ensures types { H.types host.new ≡ H.types host.old }
     ensures limit { memory.new.limit ≡ memory.old.limit }
+    ensures kept { memory.new.kept ≡ memory.old.kept }
     ensures unchanged { IsErrOf result HostEnd.Trap → memory.new ≡ memory.old }
     ensures count { H.count host.old ≤ H.count host.new }
     ensures memory { IsErrOf result HostEnd.Memory → Rose (H.count host.old) (H.count host.new) }

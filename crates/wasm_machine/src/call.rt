@@ -14,7 +14,7 @@ ghost use Rattle.wasm_machine.specs.Running.{Machine, AsksAt, SomeAsks, Comes, I
 use crate::ask::ask;
 use crate::frames::{Here, Saved, begin};
 use crate::host::{Host, HostEnd};
-use page_store::Pages;
+use page_store::KeptPages;
 use wasm_steps::{FunctionLayout, ModuleLayout};
 use wasm_tree::Trap;
 
@@ -35,7 +35,7 @@ fn call_host<H: Host>(
     place: usize,
     held: usize,
     cells: &mut [u64],
-    memory: &mut Pages,
+    memory: &mut KeptPages,
 ) -> Result<Here, Stop>
     requires fitting { Fitting (H.types host.old) function (args_of here cells.old held params) }
     requires arguments { params ≤ held }
@@ -46,6 +46,7 @@ fn call_host<H: Host>(
     ensures cells { IfOk result (λ next. next.base + next.count + next.held ≤ length cells.new) }
     ensures types { H.types host.new ≡ H.types host.old }
     ensures limit { memory.new.limit ≡ memory.old.limit }
+    ensures kept { memory.new.kept ≡ memory.old.kept }
     ensures count { H.count host.old ≤ H.count host.new }
     ensures memory { IsErrOf result Stop.Memory → Rose (H.count host.old) (H.count host.new) }
 {
@@ -84,7 +85,7 @@ pub fn call<H: Host>(
     here: Here,
     cells: &mut [u64],
     saved: &mut [Saved],
-    memory: &mut Pages,
+    memory: &mut KeptPages,
 ) -> Result<Here, Stop>
     requires some { SomeAsks layout.now (H.types host.old) saved.old cells.old here function place held }
     requires stacked { IsStacked saved.old cells.old here }
@@ -92,6 +93,7 @@ pub fn call<H: Host>(
     ensures came { (k : Machine) (whole : List Reply → Final Play) (made : List HostCall) (left : ℕ) (globals : List ℕ) (refused : Bool) → IsModuleLayout k.within layout.now → ((rest : List Reply) → AsksAt k layout.now.steps (whole rest) (play made rest) saved.old cells.old here left (parts memory.old.bytes globals refused) function place held) → Comes H.replies host.old host.new made whole k layout.now.steps saved.new cells.new left (parts memory.new.bytes globals refused) result }
     ensures types { H.types host.new ≡ H.types host.old }
     ensures limit { memory.new.limit ≡ memory.old.limit }
+    ensures kept { memory.new.kept ≡ memory.old.kept }
     ensures count { H.count host.old ≤ H.count host.new }
     ensures memory { IsErrOf result Stop.Memory → Rose (H.count host.old) (H.count host.new) }
 {

@@ -14,7 +14,7 @@ use crate::call::Stop;
 use crate::frames::{Here, Saved};
 use crate::host::Host;
 use crate::turn::{Turn, take_turn};
-use page_store::Pages;
+use page_store::KeptPages;
 use wasm_steps::ModuleLayout;
 use wasm_tree::Module;
 
@@ -30,7 +30,7 @@ pub fn drive<H: Host>(
     cells: &mut [u64],
     saved: &mut [Saved],
     globals: &mut [u64],
-    memory: &mut Pages,
+    memory: &mut KeptPages,
     refused: &mut bool,
 ) -> Result<u64, Stop>
     requires laid { IsModuleLayout module.now layout.now }
@@ -43,6 +43,7 @@ pub fn drive<H: Host>(
     ensures ended { (k : Machine) (whole : List Reply → Final Play) → k.within ≡ module.now → k.table ≡ table.now → page_bound (with_world k (play [] [])) ≡ most → ((rest : List Reply) → RunsAt k layout.now.steps (whole rest) (play [] rest) saved.old cells.old first limit (parts memory.old.bytes globals.old refused.old)) → Ended H.replies host.old host.new whole k (parts memory.new.bytes globals.new refused.new) result }
     ensures types { H.types host.new ≡ H.types host.old }
     ensures limit { memory.new.limit ≡ memory.old.limit }
+    ensures kept { memory.new.kept ≡ memory.old.kept }
     ensures count { H.count host.old ≤ H.count host.new }
     ensures memory { IsErrOf result Stop.Memory → Rose (H.count host.old) (H.count host.new) }
 {

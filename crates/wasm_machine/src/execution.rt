@@ -12,7 +12,7 @@ use crate::call::{Stop, function_at};
 use crate::drive::drive;
 use crate::frames::{Here, Saved, clear};
 use crate::host::{Host, HostEnd};
-use page_store::Pages;
+use page_store::KeptPages;
 use wasm_steps::ModuleLayout;
 use wasm_tree::{Module, Trap};
 
@@ -32,12 +32,13 @@ fn enter_host<H: Host>(
     function: u32,
     args: &[u64],
     left: u64,
-    memory: &mut Pages,
+    memory: &mut KeptPages,
 ) -> Result<u64, Stop>
     requires fitting { Fitting (H.types host.old) function args.now }
     ensures entered { IfEntered H.replies host.old host.new function args.now memory.old.bytes memory.new.bytes (memory.new ≡ memory.old) (H.types host.old) left result }
     ensures types { H.types host.new ≡ H.types host.old }
     ensures limit { memory.new.limit ≡ memory.old.limit }
+    ensures kept { memory.new.kept ≡ memory.old.kept }
     ensures count { H.count host.old ≤ H.count host.new }
     ensures memory { IsErrOf result Stop.Memory → Rose (H.count host.old) (H.count host.new) }
 {
@@ -64,7 +65,7 @@ pub fn execute<H: Host>(
     cells: &mut [u64],
     saved: &mut [Saved],
     globals: &mut [u64],
-    memory: &mut Pages,
+    memory: &mut KeptPages,
     refused: &mut bool,
 ) -> Result<u64, Stop>
     requires laid { IsModuleLayout module.now layout.now }
@@ -78,6 +79,7 @@ pub fn execute<H: Host>(
     ensures ran { HasRun H.replies host.old host.new (λ world. execute_with (limits_of limit memory.old.limit words) module.now played function args.now (store_with memory.old.bytes globals.old table.now refused.old world)) (store_with memory.new.bytes globals.new table.now refused.new) result }
     ensures types { H.types host.new ≡ H.types host.old }
     ensures limit { memory.new.limit ≡ memory.old.limit }
+    ensures kept { memory.new.kept ≡ memory.old.kept }
     ensures count { H.count host.old ≤ H.count host.new }
     ensures memory { IsErrOf result Stop.Memory → Rose (H.count host.old) (H.count host.new) }
 {

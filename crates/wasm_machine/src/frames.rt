@@ -12,7 +12,7 @@ ghost use Rattle.wasm_machine.specs.Operands.{tops};
 ghost use Rattle.wasm_machine.specs.Stacks.{IsStacked, AgreeBelow, frames_under, locals_of, operands_of, saved_list, IsCaller};
 
 use crate::activate::{End, activate};
-use page_store::Pages;
+use page_store::KeptPages;
 use wasm_steps::{BodyLayout, Step};
 
 /// An activation that waits for a call: the place after it, where its cells begin, how many locals it has, its greatest
@@ -131,7 +131,7 @@ pub fn run_frame(
     most: u32,
     cells: &mut [u64],
     globals: &mut [u64],
-    memory: &mut Pages,
+    memory: &mut KeptPages,
     refused: &mut bool,
 ) -> End
     requires some { Active steps.now (length cells.old - (here.base + here.count)) most here.place left (locals_of here cells.old) (parts memory.old.bytes globals.old refused.old) (operands_of here cells.old here.held) }
@@ -140,6 +140,7 @@ pub fn run_frame(
     ensures held { EndHolds result (length cells.old - (here.base + here.count)) }
     ensures left { EndLeft result left }
     ensures limit { memory.new.limit ≡ memory.old.limit }
+    ensures kept { memory.new.kept ≡ memory.old.kept }
     ensures below { AgreeBelow here.base cells.new cells.old }
     ensures ends { (g : Given) (calls : Calls Play) (frugal : Frugal calls) (height keep : ℕ) (whole : Final Play) → page_bound g ≡ most → Stands g.limits g.within calls steps.now here.count height keep whole here.place (state_of g left (locals_of here cells.old) (parts memory.old.bytes globals.old refused.old)) (operands_of here cells.old here.held) → Good g.limits g.within calls steps.now here.count height keep whole (next_of g result (locals_of here cells.new) (parts memory.new.bytes globals.new refused.new) (operands_of here cells.new)) }
 {

@@ -1,5 +1,5 @@
 //! The host of a run: what the imported functions do.
-use page_store::Pages;
+use page_store::KeptPages;
 
 /// How a call of an imported function may fail: it traps, or memory was wanting.
 #[derive(Clone, Copy, Debug, PartialEq, Eq)]
@@ -30,7 +30,7 @@ pub trait Host {
         &mut self,
         function: u32,
         args: &[u64],
-        memory: &mut Pages,
+        memory: &mut KeptPages,
     ) -> Result<Option<u64>, HostEnd>
         requires fitting { Fitting (types self.old) function args.now }
         ensures replied { IfReplied result memory.new.bytes (λ reply. replies self.old function args.now memory.old.bytes reply self.new) }
@@ -38,6 +38,7 @@ pub trait Host {
         ensures result { IfOk result (FitsResult (types self.old) function) }
         ensures size { length memory.new.bytes ≡ length memory.old.bytes }
         ensures limit { memory.new.limit ≡ memory.old.limit }
+        ensures kept { memory.new.kept ≡ memory.old.kept }
         ensures unchanged { IsErrOf result HostEnd.Trap → memory.new ≡ memory.old }
         ensures count { count self.old ≤ count self.new }
         ensures memory { IsErrOf result HostEnd.Memory → Rose (count self.old) (count self.new) };

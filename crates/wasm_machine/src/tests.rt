@@ -4,7 +4,7 @@ ghost use Rattle.wasm_machine.specs.Sample.{the_module, the_layout};
 
 use crate::{Host, HostEnd, Saved, execute};
 use mo_num::Sequence;
-use page_store::Pages;
+use page_store::KeptPages;
 use std::alloc::{AllocError, Global};
 use std::test::Fail;
 use wasm_steps::{BodyLayout, FunctionLayout, Label, ModuleLayout, Step};
@@ -30,7 +30,7 @@ impl Host for NoHost {
         &mut self,
         function: u32,
         args: &[u64],
-        memory: &mut Pages,
+        memory: &mut KeptPages,
     ) -> Result<Option<u64>, HostEnd> {
         Err(HostEnd::Trap)
     }
@@ -152,7 +152,7 @@ fn sums(rt: HostRuntime) -> Result<(), Fail> {
         room: 0,
     }; 2];
     let mut globals = [0u64; 0];
-    let mut memory = Pages::new(a, 1)?;
+    let mut memory = KeptPages::new(a, 1)?;
     let mut refused = false;
     let mut host = NoHost;
     let end = execute(

@@ -15,7 +15,7 @@ use crate::call::{Stop, call};
 use crate::frames::{Here, Saved, finish, run_frame};
 use crate::host::Host;
 use crate::sought::seek;
-use page_store::Pages;
+use page_store::KeptPages;
 use wasm_steps::ModuleLayout;
 use wasm_tree::{Module, Trap};
 
@@ -49,7 +49,7 @@ pub fn take_turn<H: Host>(
     cells: &mut [u64],
     saved: &mut [Saved],
     globals: &mut [u64],
-    memory: &mut Pages,
+    memory: &mut KeptPages,
     refused: &mut bool,
 ) -> Result<Turn, Stop>
     requires laid { IsModuleLayout module.now layout.now }
@@ -64,6 +64,7 @@ pub fn take_turn<H: Host>(
     ensures turned { (k : Machine) (whole : List Reply → Final Play) (made : List HostCall) → k.within ≡ module.now → k.table ≡ table.now → page_bound (with_world k (play made [])) ≡ most → ((rest : List Reply) → RunsAt k layout.now.steps (whole rest) (play made rest) saved.old cells.old here left (parts memory.old.bytes globals.old refused.old)) → Turned H.replies host.old host.new made whole k layout.now.steps here saved.new cells.new (parts memory.new.bytes globals.new refused.new) result }
     ensures types { H.types host.new ≡ H.types host.old }
     ensures limit { memory.new.limit ≡ memory.old.limit }
+    ensures kept { memory.new.kept ≡ memory.old.kept }
     ensures count { H.count host.old ≤ H.count host.new }
     ensures memory { IsErrOf result Stop.Memory → Rose (H.count host.old) (H.count host.new) }
 {

@@ -5,7 +5,7 @@ use Rattle.std.proofs.lemmas.Bool.{cases_lt}
 use Rattle.std.proofs.Common.{⊎_elim}
 use Rattle.wasm_store.specs.declared.store.LoadTrap.{LoadTrap}
 use Rattle.std.proofs.lemmas.Bool.Decides.{nat_tests}
-use Rattle.page_store.specs.Pages.{LinearMemory, page_count, zero_pages}
+use Rattle.page_store.specs.Pages.{KeptMemory, live, page_count, zero_pages}
 use Rattle.wasm_tree.specs.declared.module_parts.Module.{Module}
 use Rattle.wasm_tree.specs.Load.{Load, Instance, AboveLimit, OutOfBounds, Loaded, first_size, constant, blank, with_segments, with_elements, filled}
 use Rattle.wasm_store.specs.declared.store.LoadTrap.TheVariants.{Bounds}
@@ -45,13 +45,13 @@ grown None some h = cc
 grown (Some x) some h = h
 
 -- What loading gives, from what its steps gave: the memory grew from no bytes, and was filled.
-pub load_by : (m : Module) (before after : LinearMemory) (grew : Option ℕ) (pages entries limit : ℕ) (globals : List ℕ) (table : List (Option ℕ)) (l : Load)
-    → before.bytes ≡ [] → before.limit ≡ limit → is_some grew ≡ true → (before.limit < page_count before + pages → IsNone grew)
+pub load_by : (m : Module) (before after : KeptMemory) (grew : Option ℕ) (pages entries limit : ℕ) (globals : List ℕ) (table : List (Option ℕ)) (l : Load)
+    → before.bytes ≡ [] → before.limit ≡ limit → is_some grew ≡ true → (before.limit < page_count (live before) + pages → IsNone grew)
     → OnSome grew (after ≡ record before { bytes = before.bytes ++ zero_pages pages }) → pages ≡ first_size m.memories
     → globals ≡ map (λ g. constant g.init) m.globals → table ≡ blank entries None → entries ≡ first_size m.tables
     → filled globals (with_segments m.segments after.bytes) (with_elements m.elements table) ≡ l → load_within limit m ≡ l
 load_by m before after grew pages entries limit globals table l none same some refused grows memories g t tables done =
     let within : pages ≤ before.limit = room_left grew before.limit pages before.bytes some none refused in
     let memory : after.bytes ≡ blank (65536 * first_size m.memories) 0 =
-    zeros pages before.bytes after.bytes none (ap (λ (x : LinearMemory). x.bytes) (grown grew some grows)) ∙ ap (λ n. blank (65536 * n) 0) memories in
+    zeros pages before.bytes after.bytes none (ap (λ (x : KeptMemory). x.bytes) (grown grew some grows)) ∙ ap (λ n. blank (65536 * n) 0) memories in
     load_is limit m globals after.bytes table l (omega arith) g memory (t ∙ ap (λ n. blank {A = Option ℕ} n None) tables) done

@@ -7,4 +7,4 @@ standing s = record { memory = s.memory.bytes; globals = s.globals; table = s.ta
 
 -- as the last commit kept it, or nothing before the first one
 abbrev pub kept : Store → Instance
-kept s = record { memory = s.kept_memory.bytes; globals = s.kept_globals; table = s.kept_table }
+kept s = record { memory = s.memory.kept; globals = s.kept_globals; table = s.kept_table }

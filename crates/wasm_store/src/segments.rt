@@ -3,11 +3,14 @@ ghost use Rattle.std.specs.Prelude.{◌≡◌, ◌+◌, length, nat_le, map, Opt
 ghost use Rattle.wasm_tree.specs.Load.{put_at, with_segments, with_elements};
 
 use crate::constant::constant;
+use page_store::KeptPages;
 use wasm_tree::{DataSegment, ElementSegment};
 
 /// Writes all segments into the memory, or gives false where one does not fit.
-pub(crate) fn put_segments(segments: &[DataSegment], memory: &mut [u8]) -> bool
-    ensures { with_segments segments.now memory.old ≡ (if result then Some memory.new else None) }
+pub(crate) fn put_segments(segments: &[DataSegment], memory: &mut KeptPages) -> bool
+    ensures put { with_segments segments.now memory.old.bytes ≡ (if result then Some memory.new.bytes else None) }
+    ensures kept { memory.new.kept ≡ memory.old.kept }
+    ensures limit { memory.new.limit ≡ memory.old.limit }
 {
     for segment in segments {
         if !put_bytes(memory, constant(&segment.offset), segment.bytes.as_slice()) {
@@ -34,15 +37,12 @@ pub(crate) fn put_elements(segments: &[ElementSegment], table: &mut [Option<u32>
 }
 
 // Writes the bytes from the place on, or gives false where they do not fit.
-fn put_bytes(memory: &mut [u8], place: u64, bytes: &[u8]) -> bool
-    ensures { put_at place bytes.now memory.old ≡ (if result then Some memory.new else None) }
+fn put_bytes(memory: &mut KeptPages, place: u64, bytes: &[u8]) -> bool
+    ensures put { put_at place bytes.now memory.old.bytes ≡ (if result then Some memory.new.bytes else None) }
+    ensures kept { memory.new.kept ≡ memory.old.kept }
+    ensures limit { memory.new.limit ≡ memory.old.limit }
 {
-    if !has_room(memory.len(), place, bytes.len()) {
-        return false;
-    }
-    let start = place as usize;
-    memory[start..start + bytes.len()].copy_from_slice(bytes);
-    true
+    memory.write(place, bytes)
 }
 
 // Puts the functions into the entries from the place on, or gives false where they do not fit.

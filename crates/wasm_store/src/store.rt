@@ -5,7 +5,7 @@ ghost use Rattle.wasm_tree.specs.Load.{first_size, constant, blank};
 use crate::Room;
 use crate::constant::constant;
 use crate::segments::{put_elements, put_segments};
-use page_store::{Committed, Pages};
+use page_store::KeptPages;
 use std::alloc::{AllocError, Global};
 use wasm_tree::{Global as GlobalPart, Limits, Module};
 
@@ -27,13 +27,11 @@ pub enum LoadTrap {
 /// Memory, globals and table as they stand, and as the last commit kept them. A global is its bits.
 #[derive(Drop)]
 pub struct Store {
-    pub memory: Pages,
+    pub memory: KeptPages,
     pub globals: Room<u64, MOST_GLOBALS>,
     pub table: Room<Option<u32>, MOST_ENTRIES>,
-    kept_memory: Committed,
     kept_globals: Room<u64, MOST_GLOBALS>,
     kept_table: Room<Option<u32>, MOST_ENTRIES>,
-    ghost one_limit: { kept_memory.limit ≡ memory.limit },
 }
 
 impl Store {
@@ -50,10 +48,9 @@ impl Store {
         ensures kept { IfOk result (λ store. kept store ≡ nothing) }
     {
         Ok(Store {
-            memory: Pages::new(alloc, pages)?,
+            memory: KeptPages::new(alloc, pages)?,
             globals: Room::new(alloc)?,
             table: Room::new(alloc)?,
-            kept_memory: Committed::new(alloc, pages)?,
             kept_globals: Room::new(alloc)?,
             kept_table: Room::new(alloc)?,
         })
@@ -101,7 +98,7 @@ impl Store {
         ensures kept { kept self.new ≡ kept self.old }
         ensures limit { self.new.memory.limit ≡ self.old.memory.limit }
     {
-        put_segments(module.segments.as_slice(), self.memory.bytes_mut())
+        put_segments(module.segments.as_slice(), &mut self.memory)
             && put_elements(module.elements.as_slice(), self.table.as_mut_slice())
     }
 
@@ -118,7 +115,7 @@ impl Store {
         ensures kept { kept self.new ≡ standing self.old }
         ensures limit { self.new.memory.limit ≡ self.old.memory.limit }
     {
-        self.kept_memory.commit(&self.memory);
+        self.memory.commit();
         self.kept_globals.copy_from(&self.globals);
         self.kept_table.copy_from(&self.table);
     }
@@ -129,7 +126,7 @@ impl Store {
         ensures kept { kept self.new ≡ kept self.old }
         ensures limit { self.new.memory.limit ≡ self.old.memory.limit }
     {
-        self.kept_memory.restore(&mut self.memory);
+        self.memory.restore();
         self.globals.copy_from(&self.kept_globals);
         self.table.copy_from(&self.kept_table);
     }

@@ -280,8 +280,8 @@ fn globals(rt: HostRuntime) -> Result<(), Fail> {
 // Changes each part of the store.
 fn change(store: &mut Store) {
     let _ = store.memory.grow(1);
-    for byte in store.memory.bytes_mut().iter_mut() {
-        *byte = 9;
+    for place in 0..store.memory.bytes().len() as u64 {
+        let _ = store.memory.write(place, &[9]);
     }
     for word in store.globals.as_mut_slice().iter_mut() {
         *word = 9;

@@ -14,6 +14,7 @@ invariant-loop-to l = record {
   left : l.left ≤ l.fn.limit;
   held : l.held ≤ length l.stack;
   limit : l.memory.limit ≡ l.fn.memory.limit;
+  kept : l.memory.kept ≡ l.fn.memory.kept;
   some : Active l.steps (length l.fn.stack) l.most l.place l.left l.locals (parts l.memory.bytes l.globals l.refused) (tops l.stack l.held);
   stack : length l.stack ≡ length l.fn.stack;
   locals : length l.locals ≡ length l.fn.locals;

@@ -10,6 +10,7 @@ loop-next-init g c = record {
   stacked = c.requires.stacked;
   held = c.requires.held;
   limit = refl;
+  kept = refl;
   globals = refl;
   types = refl;
   count = omega arith;
@@ -54,6 +55,7 @@ loop-next-preserved g c =
       stacked = fit.0;
       held = fit.1;
       limit = c.take_turn.ensures.limit ∙ c.loop-next.invariant.limit;
+      kept = c.take_turn.ensures.kept ∙ c.loop-next.invariant.kept;
       globals = c.take_turn.auto.globals ∙ c.loop-next.invariant.globals;
       types = c.take_turn.ensures.types ∙ c.loop-next.invariant.types;
       count = (let h = c.loop-next.invariant.count in omega arith);

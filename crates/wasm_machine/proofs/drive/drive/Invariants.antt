@@ -11,6 +11,7 @@ invariant-loop-next g l = record {
   stacked : IsStacked l.saved l.cells l.here;
   held : l.here.base + l.here.count + l.here.held ≤ length l.cells;
   limit : l.memory.limit ≡ l.fn.memory.limit;
+  kept : l.memory.kept ≡ l.fn.memory.kept;
   globals : length l.globals ≡ length l.fn.globals;
   types : g.H.Host.types l.host ≡ g.H.Host.types l.fn.host;
   count : g.H.Host.count l.fn.host ≤ g.H.Host.count l.host;

@@ -1,6 +1,6 @@
 use Rattle.std.proofs.Common.{◌≡◌, ◌<◌, None, refl, sym, ap, arith}
 use Rattle.wasm_tree.specs.Frames.{defined}
-use Rattle.page_store.specs.Pages.{LinearMemory}
+use Rattle.page_store.specs.Pages.{KeptMemory}
 use Rattle.wasm_machine.proofs.Callees.{callee_at, callee_within, is_host}
 use Rattle.wasm_machine.proofs.Entering.{machine, host_ran, full_ran, enough_cells, params_are, whole_of, first_runs, ended_ran}
 use Rattle.wasm_machine.proofs.execution.execute.Goals as goal
@@ -66,7 +66,7 @@ drive-requires-clause-held g c =
 
 pub returns-in-None-clause-ran : goal.returns-in-None-clause-ran
 returns-in-None-clause-ran g c =
-    host_ran c.args.«module».now c.args.layout.now c.requires.laid c.args.function c.args.args.now c.requires.callable _ c.function_at-callee.ensures c.args.limit c.args.memory.now.limit c.args.words c.args.table.now c.args.memory.now.bytes c.args.globals.now c.args.refused.now g.H.Host.replies _ _ c.in-None.is (g.H.Host.types c.args.host.now) c.requires.made_for c.enter_host.new.memory.bytes _ (λ e. ap (λ (x : LinearMemory). x.bytes) e) c.enter_host.result c.enter_host.ensures.entered
+    host_ran c.args.«module».now c.args.layout.now c.requires.laid c.args.function c.args.args.now c.requires.callable _ c.function_at-callee.ensures c.args.limit c.args.memory.now.limit c.args.words c.args.table.now c.args.memory.now.bytes c.args.globals.now c.args.refused.now g.H.Host.replies _ _ c.in-None.is (g.H.Host.types c.args.host.now) c.requires.made_for c.enter_host.new.memory.bytes _ (λ e. ap (λ (x : KeptMemory). x.bytes) e) c.enter_host.result c.enter_host.ensures.entered
 
 pub returns-else-body-words-clause-ran : goal.returns-else-body-words-clause-ran
 returns-else-body-words-clause-ran g c =

@@ -9,4 +9,4 @@ use Rattle.canister_host.proofs.interface.InterfaceHost.call.Goals as goal
 pub returns-in-Ok-clause-result : goal.returns-in-Ok-clause-result
 returns-in-Ok-clause-result c =
     subst (λ functions. FitsResult (map type_of_function functions) c.args.function c.in-Ok.result) c.as_slice.ensures
-    (fits_result c.as_slice.result.now c.args.function MsgArgDataSize c.args.args.now c.bytes_mut.result.now c.args.self.now.world c.in-Ok.result c.call.new.memory c.call.new.self c.in-Ok.ensures.does)
+    (fits_result c.as_slice.result.now c.args.function MsgArgDataSize c.args.args.now c.args.memory.now.bytes c.args.self.now.world c.in-Ok.result c.call.new.memory.bytes c.call.new.self c.in-Ok.ensures.does)
