@@ -69,8 +69,9 @@ fn module_of(alloc: Global, input: Input, bytes: &[u8], number: usize) -> Result
             Err(CompileFault::Memory) => Err(Status::NoMemory),
             Ok(module) => match judge(alloc, module.as_slice()) {
                 Ok(valid) => Ok(valid),
-                // What was compiled is a valid module, so that only memory can be wanting.
-                Err(_) => Err(Status::NoMemory),
+                Err(JudgeFault::Memory) => Err(Status::NoMemory),
+                // What was compiled is a valid module.
+                Err(JudgeFault::Bad(_)) => unreachable!(),
             },
         },
     }

@@ -5,6 +5,7 @@ pub mod Finds
 pub mod Calls
 pub mod Answering
 pub mod Valid
+pub mod Short
 pub mod Spelled
 pub mod Builds
 pub mod Named

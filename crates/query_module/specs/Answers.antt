@@ -26,8 +26,9 @@ Answers methods tree =
     → (limits : ExecutionLimits) → IsEnough limits → (own : List ℕ) → (events : List Event) → AllByRecursion IsGiven events
     → IsRunOf methods events (host_run modules limits own (Install number ∷ events))
 
--- The bytes are a valid module of the methods.
+-- The bytes are a valid module of the methods, and no more than a host reads.
 pub record IsBuilt (methods : List Method) (bytes : List ℕ) : Type 0 where
+  pub short : length bytes ≤ 67108864
   pub tree : Module
   pub written : Written tree bytes
   pub valid : ValidModule tree
