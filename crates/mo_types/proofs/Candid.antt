@@ -3,8 +3,13 @@ use Rattle.std.proofs.Common.{◌≡◌, ℕ, zero, suc, List, [], ◌∷◌, �
 use Rattle.std.specs.Prelude.{slice_get}
 use Rattle.mo_types.specs.declared.datum.Datum.{Datum}
 use Rattle.mo_types.specs.Values.{Values, Nil, Value, flat, arity, firsts, after, tree}
-use Rattle.mo_types.specs.Wire.{Ref, Of, Nat, Wire, wire, SameTo}
-use Rattle.mo_types.specs.Header.{Plainly, Visits, Done, Skip, Old, New, IsKnown, table_head}
+use Rattle.mo_types.specs.declared.wire.Plain.TheVariants.{Nat}
+use Rattle.mo_types.specs.declared.wire.Wire.{Wire}
+use Rattle.mo_types.specs.declared.wire.Ref.{Ref}
+use Rattle.mo_types.specs.declared.wire.Ref.TheVariants.{Of}
+use Rattle.mo_types.specs.declared.wire.TableRef.TheVariants.{Plainly}
+use Rattle.mo_types.specs.Wire.{wire, SameTo}
+use Rattle.mo_types.specs.Header.{Visits, Done, Skip, Old, New, IsKnown, table_head}
 use Rattle.mo_types.specs.Code.{Reads}
 use Rattle.mo_types.specs.Examples.{list_head, message_of_42, forty_two}
 
@@ -17,17 +22,17 @@ pub flat_tree : (ps : List Datum) → flat (tree ps) ≡ ps
 flat_tree [] = refl
 flat_tree (p ∷ ps) = ap (λ l. p ∷ l) (split (arity p) (tree ps) ∙ flat_tree ps)
 
-abbrev head : Ref ℕ → Wire (Ref ℕ)
+abbrev pub head : Ref ℕ → Wire (Ref ℕ)
 head = wire list_head
 
 mutual
   unfolding SameTo
 
-  option_same : (n : ℕ) → SameTo head head n (Of 0) (Of 0)
+  pub option_same : (n : ℕ) → SameTo head head n (Of 0) (Of 0)
   option_same zero = tt
   option_same (suc n) = tuple_same n
 
-  tuple_same : (n : ℕ) → SameTo head head n (Of 1) (Of 1)
+  pub tuple_same : (n : ℕ) → SameTo head head n (Of 1) (Of 1)
   tuple_same zero = tt
   tuple_same (suc n) = (refl, nat_same n, (refl, option_same n, tt))
 

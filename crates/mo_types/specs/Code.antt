@@ -5,10 +5,16 @@ use Rattle.mo_types.specs.declared.datum.Datum.TheVariants as part
 use Rattle.mo_types.specs.Sub.{Each}
 use Rattle.mo_types.specs.Label.{label_id}
 use Rattle.mo_types.specs.Values.{Values, Nil, Value, HaveTypes}
-use Rattle.mo_types.specs.Wire.{Wire, Entry, Record, Ref, Of, refs, wire, map_wire, SameWire}
+use Rattle.mo_types.specs.declared.wire.Entry.{Entry}
+use Rattle.mo_types.specs.declared.wire.Wire.{Wire}
+use Rattle.mo_types.specs.declared.wire.Wire.TheVariants.{Record}
+use Rattle.mo_types.specs.declared.wire.Ref.{Ref}
+use Rattle.mo_types.specs.declared.wire.Ref.TheVariants.{Of}
+use Rattle.mo_types.specs.declared.wire.TableRef.{TableRef}
+use Rattle.mo_types.specs.Wire.{refs, wire, map_wire, SameWire}
 use Rattle.mo_types.specs.Form.{form}
 use Rattle.mo_types.specs.Spelling.{Then, padded, shortest, low_first, Spell, FewEmpty, AnyCount}
-use Rattle.mo_types.specs.Header.{TableRef, IsHeader, IsTableRef, IsTable, table_head, IsCanonical}
+use Rattle.mo_types.specs.Header.{IsHeader, IsTableRef, IsTable, table_head, IsCanonical}
 
 -- the canonical header and then the Candid values, all in shortest numbers
 abbrev pub CodeOf : {B : Type 0} → (B → Wire B) → List B → Values → List ℕ → Type 0

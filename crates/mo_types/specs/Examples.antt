@@ -6,6 +6,7 @@ use Rattle.mo_types.specs.declared.node.Node.{Node}
 use Rattle.mo_types.specs.declared.node.Node.TheVariants as node
 use Rattle.mo_types.specs.declared.node.Field.{Field}
 use Rattle.mo_types.specs.Values.{Values, Nil, Value}
+use Rattle.mo_types.specs.Code.{Variable}
 
 -- 0 is `type L = ?(Nat, L)`, 1 is (Nat, L), and all others are Nat
 abbrev pub list_head : ℕ → Node ℕ
@@ -27,3 +28,30 @@ err_field = record { label = 101 ∷ 114 ∷ 114 ∷ []; mutable = false; part =
 
 abbrev pub ok_field : Field ℕ
 ok_field = record { label = 111 ∷ 107 ∷ []; mutable = false; part = 3 }
+
+-- the list with 1 alone, and its message: an option of entry 1, a record of a number and of entry 0, one argument of
+-- entry 0; and then a value that is there, 1, and none
+abbrev pub list_of_one : Values
+list_of_one = Value part.Present (Value (part.Record 2) (Value (part.Number (pos 1)) Nil (Value part.Null Nil Nil)) Nil) Nil
+
+abbrev pub message_of_a_list : List ℕ
+message_of_a_list = 0x44 ∷ 0x49 ∷ 0x44 ∷ 0x4c ∷ 0x02 ∷ 0x6e ∷ 0x01 ∷ 0x6c ∷ 0x02 ∷ 0x00 ∷ 0x7d ∷ 0x01 ∷ 0x00 ∷ 0x01 ∷ 0x00 ∷ 0x01 ∷ 0x01 ∷ 0x00 ∷ []
+
+-- 0 is a character, and all others are Nat32
+abbrev pub letter_head : ℕ → Node ℕ
+letter_head zero = node.Char
+letter_head (suc n) = node.Number kind.Nat32
+
+abbrev pub letter_a : Values
+letter_a = Value (part.Char 97) Nil Nil
+
+abbrev pub ninety_seven : Values
+ninety_seven = Value (part.Number (pos 97)) Nil Nil
+
+-- `stable var n : Nat`, which is 42
+abbrev pub variable_n : Variable ℕ
+variable_n = record { name = 110 ∷ []; type = 2; value = forty_two }
+
+-- the form 1, the length 12, and a record of a number under 110
+abbrev pub stable_memory : List ℕ
+stable_memory = 1 ∷ 0 ∷ 0 ∷ 0 ∷ 12 ∷ 0 ∷ 0 ∷ 0 ∷ 0 ∷ 0 ∷ 0 ∷ 0 ∷ 0x44 ∷ 0x49 ∷ 0x44 ∷ 0x4c ∷ 0x01 ∷ 0x6c ∷ 0x01 ∷ 110 ∷ 0x7d ∷ 0x01 ∷ 0x00 ∷ 42 ∷ []

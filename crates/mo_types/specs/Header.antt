@@ -2,13 +2,15 @@
 -- of the arguments.
 use Rattle.std.specs.Prelude.{◌≡◌, ℕ, ◌<◌, List, [], ◌∷◌, ◌++◌, length, map, true, Option, Some, None, slice_get, pos}
 use Rattle.mo_types.specs.Sub.{Each}
-use Rattle.mo_types.specs.Wire.{Plain, Empty, plain_code, Entry, Method, Wire, Simple, Opt, Vec, Record, Variant, Func, Service, SameWire, name_before}
+use Rattle.mo_types.specs.declared.wire.Plain.TheVariants as plain
+use Rattle.mo_types.specs.declared.wire.Entry.{Entry}
+use Rattle.mo_types.specs.declared.wire.Method.{Method}
+use Rattle.mo_types.specs.declared.wire.Wire.{Wire}
+use Rattle.mo_types.specs.declared.wire.Wire.TheVariants.{Simple, Opt, Vec, Record, Variant, Func, Service}
+use Rattle.mo_types.specs.declared.wire.TableRef.{TableRef}
+use Rattle.mo_types.specs.declared.wire.TableRef.TheVariants.{Plainly, At}
+use Rattle.mo_types.specs.Wire.{plain_code, SameWire, name_before}
 use Rattle.mo_types.specs.Spelling.{Numbers, Then, IsString}
-
--- a type as a header has it: one without parts, or an entry of its table
-pub data TableRef : Type 0 where
-  Plainly : Plain → TableRef
-  At : ℕ → TableRef
 
 -- the bytes 44 49 44 4c, `DIDL`
 abbrev pub magic : List ℕ
@@ -55,7 +57,7 @@ module _ (N : Numbers) where
 -- ---- a header that is read
 
 abbrev pub or_empty : Option (Wire TableRef) → Wire TableRef
-or_empty None = Simple Empty
+or_empty None = Simple plain.Empty
 or_empty (Some w) = w
 
 abbrev pub table_head : List (Wire TableRef) → TableRef → Wire TableRef

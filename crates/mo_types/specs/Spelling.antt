@@ -11,7 +11,11 @@ use Rattle.mo_types.specs.declared.datum.Datum.{Datum}
 use Rattle.mo_types.specs.declared.datum.Datum.TheVariants as part
 use Rattle.mo_types.specs.Sub.{Each}
 use Rattle.mo_types.specs.Values.{Values, Nil, Value, copies, is_method_name}
-use Rattle.mo_types.specs.Wire.{Plain, Null, Bool_, Nat, Int, Nat8, Nat16, Nat32, Nat64, Int8, Int16, Int32, Int64, Text, Reserved, Principal, Entry, Wire, Simple, Opt, Vec, Record, Variant, Func, Service}
+use Rattle.mo_types.specs.declared.wire.Plain.{Plain}
+use Rattle.mo_types.specs.declared.wire.Plain.TheVariants as plain
+use Rattle.mo_types.specs.declared.wire.Entry.{Entry}
+use Rattle.mo_types.specs.declared.wire.Wire.{Wire}
+use Rattle.mo_types.specs.declared.wire.Wire.TheVariants.{Simple, Opt, Vec, Record, Variant, Func, Service}
 
 -- these bytes, and then those
 pub record Then (P Q : List ℕ → Type 0) (bytes : List ℕ) : Type 0 where
@@ -69,21 +73,21 @@ module _ (N : Numbers) where
   IsPrincipal p bytes = (length p ≤ 29) × Then (λ b. b ≡ 1 ∷ []) (IsString p) bytes
 
   abbrev pub IsPlainPart : Plain → Datum → List ℕ → Type 0
-  IsPlainPart Null part.Null bytes = bytes ≡ []
-  IsPlainPart Reserved part.Null bytes = bytes ≡ []
-  IsPlainPart Bool_ (part.Flag b) bytes = bytes ≡ bit b ∷ []
-  IsPlainPart Nat (part.Number n) bytes = IsNat n bytes
-  IsPlainPart Int (part.Number n) bytes = InRange kind.Int n × N.signed 70 bytes n
-  IsPlainPart Nat8 (part.Number n) bytes = IsFixed kind.Nat8 1 n bytes
-  IsPlainPart Nat16 (part.Number n) bytes = IsFixed kind.Nat16 2 n bytes
-  IsPlainPart Nat32 (part.Number n) bytes = IsFixed kind.Nat32 4 n bytes
-  IsPlainPart Nat64 (part.Number n) bytes = IsFixed kind.Nat64 8 n bytes
-  IsPlainPart Int8 (part.Number n) bytes = IsFixed kind.Int8 1 n bytes
-  IsPlainPart Int16 (part.Number n) bytes = IsFixed kind.Int16 2 n bytes
-  IsPlainPart Int32 (part.Number n) bytes = IsFixed kind.Int32 4 n bytes
-  IsPlainPart Int64 (part.Number n) bytes = IsFixed kind.Int64 8 n bytes
-  IsPlainPart Text (part.Text t) bytes = (is_utf8 t ≡ true) × IsString t bytes
-  IsPlainPart Principal (part.Principal p) bytes = IsPrincipal p bytes
+  IsPlainPart plain.Null part.Null bytes = bytes ≡ []
+  IsPlainPart plain.Reserved part.Null bytes = bytes ≡ []
+  IsPlainPart plain.Bool (part.Flag b) bytes = bytes ≡ bit b ∷ []
+  IsPlainPart plain.Nat (part.Number n) bytes = IsNat n bytes
+  IsPlainPart plain.Int (part.Number n) bytes = InRange kind.Int n × N.signed 70 bytes n
+  IsPlainPart plain.Nat8 (part.Number n) bytes = IsFixed kind.Nat8 1 n bytes
+  IsPlainPart plain.Nat16 (part.Number n) bytes = IsFixed kind.Nat16 2 n bytes
+  IsPlainPart plain.Nat32 (part.Number n) bytes = IsFixed kind.Nat32 4 n bytes
+  IsPlainPart plain.Nat64 (part.Number n) bytes = IsFixed kind.Nat64 8 n bytes
+  IsPlainPart plain.Int8 (part.Number n) bytes = IsFixed kind.Int8 1 n bytes
+  IsPlainPart plain.Int16 (part.Number n) bytes = IsFixed kind.Int16 2 n bytes
+  IsPlainPart plain.Int32 (part.Number n) bytes = IsFixed kind.Int32 4 n bytes
+  IsPlainPart plain.Int64 (part.Number n) bytes = IsFixed kind.Int64 8 n bytes
+  IsPlainPart plain.Text (part.Text t) bytes = (is_utf8 t ≡ true) × IsString t bytes
+  IsPlainPart plain.Principal (part.Principal p) bytes = IsPrincipal p bytes
   IsPlainPart _ _ bytes = ⊥
 
   module _ {B : Type 0} (Allowed : ℕ → B → Type 0) where
@@ -120,8 +124,8 @@ Spell N Allowed head _ _ bytes = ⊥
 
 -- a type whose values have no bytes, by so many levels: null, reserved, and records of such types alone
 abbrev pub EmptyHead : {B : Type 0} → (B → Type 0) → Wire B → Type 0
-EmptyHead E (Simple Null) = Unit {0}
-EmptyHead E (Simple Reserved) = Unit {0}
+EmptyHead E (Simple plain.Null) = Unit {0}
+EmptyHead E (Simple plain.Reserved) = Unit {0}
 EmptyHead E (Record es) = Each (λ e. E e.part) es
 EmptyHead E _ = ⊥
 

@@ -1,7 +1,15 @@
 -- Candid types (Candid specification, section "Types"), those of Motoko types, and when two of them are equal.
-use Rattle.std.specs.Prelude.{◌≡◌, ℕ, zero, suc, ◌+◌, Bool, true, false, List, [], ◌∷◌, map, nat_eq, nat_lt, if◌then◌else◌}
+use Rattle.std.specs.Prelude.{◌≡◌, ℕ, zero, suc, ◌+◌, Bool, true, false, List, [], ◌∷◌, map, nat_eq, nat_lt, if◌then◌else◌, Option, Some, None}
 use Rattle.mo_num.specs.declared.kind.Kind.{Kind}
 use Rattle.mo_num.specs.declared.kind.Kind.TheVariants as kind
+use Rattle.mo_types.specs.declared.wire.Plain.{Plain}
+use Rattle.mo_types.specs.declared.wire.Plain.TheVariants as plain
+use Rattle.mo_types.specs.declared.wire.Entry.{Entry}
+use Rattle.mo_types.specs.declared.wire.Method.{Method}
+use Rattle.mo_types.specs.declared.wire.Wire.{Wire}
+use Rattle.mo_types.specs.declared.wire.Wire.TheVariants.{Simple, Opt, Vec, Record, Variant, Func, Service}
+use Rattle.mo_types.specs.declared.wire.Ref.{Ref}
+use Rattle.mo_types.specs.declared.wire.Ref.TheVariants.{Of, Just}
 use Rattle.mo_types.specs.declared.node.Node.{Node}
 use Rattle.mo_types.specs.declared.node.Node.TheVariants as node
 use Rattle.mo_types.specs.declared.node.Field.{Field}
@@ -10,67 +18,31 @@ use Rattle.mo_types.specs.declared.node.Sort.TheVariants as sort
 use Rattle.mo_types.specs.Label.{label_id}
 use Rattle.mo_types.specs.Values.{by_label}
 
--- a type without parts
-pub data Plain : Type 0 where
-  Null : Plain
-  Bool_ : Plain
-  Nat : Plain
-  Int : Plain
-  Nat8 : Plain
-  Nat16 : Plain
-  Nat32 : Plain
-  Nat64 : Plain
-  Int8 : Plain
-  Int16 : Plain
-  Int32 : Plain
-  Int64 : Plain
-  Float32 : Plain
-  Float64 : Plain
-  Text : Plain
-  Reserved : Plain
-  Empty : Plain
-  Principal : Plain
-
 -- the byte of a type without parts, which is its negative number in one byte of SLEB128
 abbrev pub plain_code : Plain → ℕ
-plain_code Null = 0x7f
-plain_code Bool_ = 0x7e
-plain_code Nat = 0x7d
-plain_code Int = 0x7c
-plain_code Nat8 = 0x7b
-plain_code Nat16 = 0x7a
-plain_code Nat32 = 0x79
-plain_code Nat64 = 0x78
-plain_code Int8 = 0x77
-plain_code Int16 = 0x76
-plain_code Int32 = 0x75
-plain_code Int64 = 0x74
-plain_code Float32 = 0x73
-plain_code Float64 = 0x72
-plain_code Text = 0x71
-plain_code Reserved = 0x70
-plain_code Empty = 0x6f
-plain_code Principal = 0x68
+plain_code plain.Null = 0x7f
+plain_code plain.Bool = 0x7e
+plain_code plain.Nat = 0x7d
+plain_code plain.Int = 0x7c
+plain_code plain.Nat8 = 0x7b
+plain_code plain.Nat16 = 0x7a
+plain_code plain.Nat32 = 0x79
+plain_code plain.Nat64 = 0x78
+plain_code plain.Int8 = 0x77
+plain_code plain.Int16 = 0x76
+plain_code plain.Int32 = 0x75
+plain_code plain.Int64 = 0x74
+plain_code plain.Float32 = 0x73
+plain_code plain.Float64 = 0x72
+plain_code plain.Text = 0x71
+plain_code plain.Reserved = 0x70
+plain_code plain.Empty = 0x6f
+plain_code plain.Principal = 0x68
 
--- a part under a label's number, and a method under its name
-pub record Entry (A : Type 0) : Type 0 where
-  pub id : ℕ
-  pub part : A
-
-pub record Method (A : Type 0) : Type 0 where
-  pub name : List ℕ
-  pub part : A
-
--- the head of a Candid type, with parts of any kind
-pub data Wire (A : Type 0) : Type 0 where
-  Simple : Plain → Wire A
-  Opt : A → Wire A
-  Vec : A → Wire A
-  Record : List (Entry A) → Wire A
-  Variant : List (Entry A) → Wire A
-  -- arguments, results, and the bytes of the annotations
-  Func : List A → List A → List ℕ → Wire A
-  Service : List (Method A) → Wire A
+-- the type of a byte
+abbrev pub plain_of_code : ℕ → Option Plain
+plain_of_code code =
+    if nat_eq code 0x7f then Some plain.Null else (if nat_eq code 0x7e then Some plain.Bool else (if nat_eq code 0x7d then Some plain.Nat else (if nat_eq code 0x7c then Some plain.Int else (if nat_eq code 0x7b then Some plain.Nat8 else (if nat_eq code 0x7a then Some plain.Nat16 else (if nat_eq code 0x79 then Some plain.Nat32 else (if nat_eq code 0x78 then Some plain.Nat64 else (if nat_eq code 0x77 then Some plain.Int8 else (if nat_eq code 0x76 then Some plain.Int16 else (if nat_eq code 0x75 then Some plain.Int32 else (if nat_eq code 0x74 then Some plain.Int64 else (if nat_eq code 0x73 then Some plain.Float32 else (if nat_eq code 0x72 then Some plain.Float64 else (if nat_eq code 0x71 then Some plain.Text else (if nat_eq code 0x70 then Some plain.Reserved else (if nat_eq code 0x6f then Some plain.Empty else (if nat_eq code 0x68 then Some plain.Principal else None)))))))))))))))))
 
 abbrev pub map_entry : {A B : Type 0} → (A → B) → Entry A → Entry B
 map_entry f e = record { id = e.id; part = f e.part }
@@ -87,22 +59,17 @@ map_wire f (Variant es) = Variant (map (map_entry f) es)
 map_wire f (Func ps rs ns) = Func (map f ps) (map f rs) ns
 map_wire f (Service ms) = Service (map (map_method f) ms)
 
--- a Candid type: that of a Motoko type, or one without parts
-pub data Ref (A : Type 0) : Type 0 where
-  Of : A → Ref A
-  Just : Plain → Ref A
-
 abbrev pub plain_number : Kind → Plain
-plain_number kind.Nat = Nat
-plain_number kind.Int = Int
-plain_number kind.Nat8 = Nat8
-plain_number kind.Nat16 = Nat16
-plain_number kind.Nat32 = Nat32
-plain_number kind.Nat64 = Nat64
-plain_number kind.Int8 = Int8
-plain_number kind.Int16 = Int16
-plain_number kind.Int32 = Int32
-plain_number kind.Int64 = Int64
+plain_number kind.Nat = plain.Nat
+plain_number kind.Int = plain.Int
+plain_number kind.Nat8 = plain.Nat8
+plain_number kind.Nat16 = plain.Nat16
+plain_number kind.Nat32 = plain.Nat32
+plain_number kind.Nat64 = plain.Nat64
+plain_number kind.Int8 = plain.Int8
+plain_number kind.Int16 = plain.Int16
+plain_number kind.Int32 = plain.Int32
+plain_number kind.Int64 = plain.Int64
 
 -- whether names rise in the order of their bytes
 abbrev pub name_before : List ℕ → List ℕ → Bool
@@ -113,7 +80,7 @@ name_before (b ∷ bs) (c ∷ cs) = if nat_lt b c then true else (if nat_eq b c 
 
 -- a shared function; local ones are not shareable
 abbrev pub function : {A : Type 0} → Sort → List A → List A → Wire A
-function sort.Local ps rs = Simple Empty
+function sort.Local ps rs = Simple plain.Empty
 function sort.Shared ps rs = Func ps rs []
 function sort.Query ps rs = Func ps rs (1 ∷ [])
 
@@ -143,7 +110,7 @@ module _ {A : Type 0} where
 
   module _ (head : A → Node A) where
     abbrev pub payload_by : A → Node A → Ref A
-    payload_by t (node.Tuple []) = Just Null
+    payload_by t (node.Tuple []) = Just plain.Null
     payload_by t _ = Of t
 
     -- a tag's value: () stands as null
@@ -155,14 +122,14 @@ module _ {A : Type 0} where
 
     abbrev pub wire_of_node : Node A → Wire (Ref A)
     wire_of_node (node.Number k) = Simple (plain_number k)
-    wire_of_node node.Bool = Simple Bool_
-    wire_of_node node.Char = Simple Nat32
-    wire_of_node node.Text = Simple Text
-    wire_of_node node.Blob = Vec (Just Nat8)
-    wire_of_node node.Principal = Simple Principal
-    wire_of_node node.Null = Simple Null
-    wire_of_node node.Any = Simple Reserved
-    wire_of_node node.Bottom = Simple Empty
+    wire_of_node node.Bool = Simple plain.Bool
+    wire_of_node node.Char = Simple plain.Nat32
+    wire_of_node node.Text = Simple plain.Text
+    wire_of_node node.Blob = Vec (Just plain.Nat8)
+    wire_of_node node.Principal = Simple plain.Principal
+    wire_of_node node.Null = Simple plain.Null
+    wire_of_node node.Any = Simple plain.Reserved
+    wire_of_node node.Bottom = Simple plain.Empty
     wire_of_node (node.Opt a) = Opt (Of a)
     wire_of_node (node.Array a) = Vec (Of a)
     wire_of_node (node.Tuple ts) = Record (numbered 0 ts)
@@ -171,10 +138,10 @@ module _ {A : Type 0} where
     wire_of_node (node.Variant fs) = Variant (map tag_of (by_label fs))
     wire_of_node (node.Func s ps rs) = function s (refs ps) (refs rs)
     -- these are not shareable
-    wire_of_node node.Error = Simple Empty
-    wire_of_node (node.MutArray a) = Simple Empty
-    wire_of_node (node.Async a) = Simple Empty
-    wire_of_node (node.Variable v b) = Simple Empty
+    wire_of_node node.Error = Simple plain.Empty
+    wire_of_node (node.MutArray a) = Simple plain.Empty
+    wire_of_node (node.Async a) = Simple plain.Empty
+    wire_of_node (node.Variable v b) = Simple plain.Empty
 
     -- the Candid type of a Motoko type, head by head
     abbrev pub wire : Ref A → Wire (Ref A)

@@ -1,6 +1,6 @@
 //! Graphs of types.
 ghost use Rattle.std.specs.Prelude.{◌++◌, ◌∷◌, ◌≡◌, ◌+◌, ◌<◌, ◌≤◌, [], length, slice_get, slice_set, IfOk, IfErr, OnOk, OnErr, IsSome, IfSome, IfNone, IsTrue, IsFalse, ◌==◌, ◌≢◌, Some, None, ◌⊎◌};
-ghost use Rattle.mo_types.specs.Graph.{Defined, Fits, IfTooMany, Interned, Interns, IsAdded, IsNewNode, Open, node_at, memory_fault, node_of, slot_of, too_many, total};
+ghost use Rattle.mo_types.specs.Graph.{Defined, Fits, IfTooMany, Interned, Interns, IsAdded, IsNewNode, Open, node_at, memory_fault, node_of, node_of_slot, slot_of, too_many, total};
 ghost use Rattle.std.specs.List.{position};
 ghost use Rattle.indexmap.specs.IndexMap.{get, keys, set_value_at};
 ghost use Rattle.mo_types.specs.Keys.{same_key};
@@ -129,14 +129,21 @@ impl TypeGraph {
         Ok(TypeId { index })
     }
 
+    /// The node of the type of this number, where it is defined.
+    pub fn get_index(&self, index: usize) -> Option<&Node>
+        ensures { map_option (λ n. n.now) result ≡ node_of_slot (slice_get self.now index) }
+    {
+        match self.slots.get_index(index) {
+            Some((key, defined)) => node_in(key, defined),
+            None => None,
+        }
+    }
+
     /// The node of a type, where it is defined.
     pub fn get(&self, id: TypeId) -> Option<&Node>
         ensures { map_option (λ n. n.now) result ≡ node_at self.now id }
     {
-        match self.slots.get_index(id.index as usize) {
-            Some((key, defined)) => node_in(key, defined),
-            None => None,
-        }
+        self.get_index(id.index as usize)
     }
 
     /// The node of a type that is defined.

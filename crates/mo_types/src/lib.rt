@@ -12,9 +12,11 @@ mod layout;
 mod node;
 #[cfg(test)]
 mod tests;
+mod wire;
 
 pub use candid_laws::{
-    a_list_has_two_entries, a_number_is_read, fields_go_by_number, parts_are_values,
+    a_character_is_kept, a_list_has_two_entries, a_list_is_written, a_number_is_read,
+    a_variable_is_saved, fields_go_by_number, parts_are_values,
 };
 pub use datum::{Data, Datum};
 pub use fault::TypesFault;
@@ -22,3 +24,4 @@ pub use graph::TypeGraph;
 pub use label::label_id;
 pub use layout::{kind_number, sort_number};
 pub use node::{Field, Node, Sort, TypeId};
+pub use wire::{Entry, Method, Plain, Ref, TableRef, Wire};
