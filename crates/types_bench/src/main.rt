@@ -1,0 +1,16 @@
+//! Measures questions of subtyping on generated types.
+#![tactic(auto)]
+
+mod measure;
+mod question;
+
+use std::{env, io};
+
+fn main(rt: HostRuntime) -> io::Result<()> {
+    let mut words = env::args(&rt)?;
+    let _ = words.next();
+    match words.next() {
+        Some(word) if word.as_str() == "run" => measure::all(&rt, rt.alloc()),
+        _ => println!(rt; "usage: types_bench run"),
+    }
+}
