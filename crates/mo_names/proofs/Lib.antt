@@ -1,3 +1,4 @@
 pub mod Scoping
 pub mod Cases
 pub mod Breaking
+pub mod Distinct

@@ -87,7 +87,7 @@ impl Walk {
         };
         self.each_type_parameter(parameters.as_slice(), scope)?;
         let names = self.names_of_parameters(parameters.as_slice())?;
-        together(self.rule, &names)
+        together(self.alloc, self.rule, &names)
     }
 
     fn parameter_names(self, parameters: &Option<Items<TypeParameter>>) -> Result<Names, Memory>
@@ -134,8 +134,8 @@ impl Walk {
         self.values_of(declarations, &mut values)?;
         let mut types = Names::new(self.alloc);
         self.types_of(declarations, &mut types)?;
-        together(self.rule, &values)?;
-        together(self.rule, &types)?;
+        together(self.alloc, self.rule, &values)?;
+        together(self.alloc, self.rule, &types)?;
         scope.add_values(values)?;
         scope.add_types(types)?;
         Ok(())
@@ -173,8 +173,8 @@ impl Walk {
         self.member_types(fields, &mut types)?;
         let mut names = Names::new(self.alloc);
         self.public_names(fields, &mut names)?;
-        together(self.rule, &values)?;
-        together(self.rule, &types)?;
+        together(self.alloc, self.rule, &values)?;
+        together(self.alloc, self.rule, &types)?;
         self.public_labels(&names)?;
         scope.add_values(values)?;
         scope.add_types(types)?;
@@ -216,7 +216,7 @@ impl Walk {
         };
         self.each_identifier(names.as_slice())?;
         let copies = self.copies(names.as_slice())?;
-        together(self.rule, &copies)?;
+        together(self.alloc, self.rule, &copies)?;
         scope.add_types(copies)?;
         Ok(())
     }

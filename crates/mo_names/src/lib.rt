@@ -18,6 +18,3 @@ mod wrong;
 
 pub use fault::NameFault;
 pub use resolving::check_scopes;
-
-#[cfg(test)]
-mod tests;

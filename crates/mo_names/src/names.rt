@@ -1,6 +1,7 @@
 //! The rules on names and lists of names.
-ghost use Rattle.std.specs.Prelude.{◌≡◌, ◌==◌, length, ◌∷◌, ◌++◌, [], not, Bool, List, ℕ, OnOk, map, IfOk};
+ghost use Rattle.std.specs.Prelude.{◌≡◌, ◌==◌, length, ◌∷◌, ◌++◌, [], not, Bool, List, ℕ, OnOk, map, IfOk, nat_eq};
 ghost use Rattle.std.specs.List.{list_any};
+ghost use Rattle.indexmap.specs.IndexSet.{insert_key};
 ghost use Rattle.mo_types.specs.Label.{label_id};
 ghost use Rattle.mo_names.specs.Judged.{Judged};
 ghost use Rattle.mo_names.specs.Rules.{contains, distinct, distinct_numbers, begins_reserved, digits_and_mark, is_position, identifier, label, together, labels, known};
@@ -8,6 +9,8 @@ ghost use Rattle.mo_names.specs.Rules.{contains, distinct, distinct_numbers, beg
 use crate::rule::Rule;
 use crate::scope::Names;
 use crate::wrong::{Wrong, judge};
+use indexmap::IndexSet;
+use mo_name_table::NameTable;
 use mo_num::Memory;
 use mo_syntax::{Name, Place};
 use mo_types::label_id;
@@ -77,24 +80,18 @@ pub(crate) fn known(rule: Rule, place: Place, meant: bool) -> Result<(), Wrong>
     }
 }
 
-/// That the name is none of these, at the place of the one that it is.
-fn is_none_of(others: &[Name], name: &Name) -> Result<(), Wrong>
-    ensures { Judged result (not (contains others.now name.now)) }
-{
-    for other in others {
-        if name.same(other) {
-            return Err(Wrong::At(other.place()));
-        }
-    }
-    Ok(())
-}
-
 /// That no name stands twice, at the later place of one that does.
-fn are_distinct(names: &[Name]) -> Result<(), Wrong>
+#[tactic(auto, using(crate::proofs::Distinct::more_names, crate::proofs::Distinct::name_twice, crate::proofs::Distinct::all_names))]
+fn are_distinct(alloc: Global, names: &[Name]) -> Result<(), Wrong>
     ensures { Judged result (distinct names.now) }
 {
-    for index in 0..names.len() {
-        is_none_of(&names[index + 1..], &names[index])?;
+    let mut seen = NameTable::new(alloc);
+    for name in names {
+        if seen.contains(name) {
+            return Err(Wrong::At(name.place()));
+        }
+        let copy = Name::new(alloc, name.place(), name.as_slice())?;
+        seen.push(copy)?;
     }
     Ok(())
 }
@@ -110,34 +107,35 @@ fn numbers_of(alloc: Global, names: &[Name]) -> Result<Vec<u32>, Memory>
     Ok(numbers)
 }
 
-fn is_no_number_of(numbers: &[u32], names: &[Name], number: u32) -> Result<(), Wrong>
-    requires { length numbers.now ≡ length names.now }
-    ensures { Judged result (not (list_any (λ y. y == number) numbers.now)) }
+/// Adds a number, and says whether it is new.
+fn note(seen: &mut IndexSet<u32>, number: u32) -> Result<bool, Memory>
+    ensures new { IfOk result (λ added. added ≡ not (list_any (λ y. nat_eq number y) seen.old.keys)) }
+    ensures keys { OnOk result (seen.new.keys ≡ insert_key nat_eq seen.old.keys number) }
 {
+    Ok(seen.insert(number)?)
+}
+
+/// That no number stands twice, at the place of the later name of one that does.
+#[tactic(auto, using(crate::proofs::Distinct::more_numbers, crate::proofs::Distinct::number_twice, crate::proofs::Distinct::all_numbers))]
+fn have_distinct_numbers(alloc: Global, numbers: &[u32], names: &[Name]) -> Result<(), Wrong>
+    requires { length numbers.now ≡ length names.now }
+    ensures { Judged result (distinct_numbers numbers.now) }
+{
+    let mut seen = IndexSet::new(alloc);
     for index in 0..numbers.len() {
-        if numbers[index] == number {
+        if !note(&mut seen, numbers[index])? {
             return Err(Wrong::At(names[index].place()));
         }
     }
     Ok(())
 }
 
-fn have_distinct_numbers(numbers: &[u32], names: &[Name]) -> Result<(), Wrong>
-    requires { length numbers.now ≡ length names.now }
-    ensures { Judged result (distinct_numbers numbers.now) }
-{
-    for index in 0..numbers.len() {
-        is_no_number_of(&numbers[index + 1..], &names[index + 1..], numbers[index])?;
-    }
-    Ok(())
-}
-
 /// The rule on the names that one list, pattern or type binds.
-pub(crate) fn together(rule: Rule, names: &Names) -> Result<(), Wrong>
+pub(crate) fn together(alloc: Global, rule: Rule, names: &Names) -> Result<(), Wrong>
     ensures { Judged result (together rule names.now) }
 {
     match rule {
-        Rule::Twice => are_distinct(names.as_slice()),
+        Rule::Twice => are_distinct(alloc, names.as_slice()),
         _ => Ok(()),
     }
 }
@@ -149,7 +147,7 @@ pub(crate) fn labels(alloc: Global, rule: Rule, names: &Names) -> Result<(), Wro
     match rule {
         Rule::LabelClash => {
             let numbers = numbers_of(alloc, names.as_slice())?;
-            have_distinct_numbers(numbers.as_slice(), names.as_slice())
+            have_distinct_numbers(alloc, numbers.as_slice(), names.as_slice())
         }
         _ => Ok(()),
     }

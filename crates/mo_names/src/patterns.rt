@@ -129,7 +129,7 @@ impl Walk {
         ensures names { OnOk result (names.new ≡ (pattern_binder self.rule p.now).names) }
     {
         self.pattern(p, scope, names)?;
-        together(self.rule, names)
+        together(self.alloc, self.rule, names)
     }
 
     /// A whole list of parameters. Adds the names that it binds to what is empty.
@@ -144,6 +144,6 @@ impl Walk {
         ensures names { OnOk result (names.new ≡ (parameters_binder self.rule parameters.now).names) }
     {
         self.parameter_list(parameters, scope, names)?;
-        together(self.rule, names)
+        together(self.alloc, self.rule, names)
     }
 }

@@ -10,7 +10,7 @@ ghost use Rattle.mo_names.specs.ProgramRules.{import_rule, imports_of, context_b
 
 use crate::library::{is_system_function, library_of};
 use crate::names::{identifier, known, label, labels, push_copy, together};
-use crate::scope::{Import, Names, Scope};
+use crate::scope::{Import, Names, Scope, table_of};
 use crate::walk::Walk;
 use crate::wrong::Wrong;
 use mo_num::{Memory, Sequence};
@@ -88,7 +88,7 @@ impl Walk {
     {
         let mut names = Names::new(self.alloc);
         self.prefix(prefix, scope, &mut names)?;
-        together(self.rule, &names)?;
+        together(self.alloc, self.rule, &names)?;
         scope.add_values(names)?;
         Ok(())
     }
@@ -234,11 +234,11 @@ impl Walk {
         ensures { Judged result (actor_names self.rule fields.now) }
     {
         let values = self.all_values(fields)?;
-        together(self.rule, &values)?;
+        together(self.alloc, self.rule, &values)?;
         let types = self.all_types(fields)?;
-        together(self.rule, &types)?;
+        together(self.alloc, self.rule, &types)?;
         let systems = self.system_names(fields)?;
-        together(self.rule, &systems)?;
+        together(self.alloc, self.rule, &systems)?;
         let methods = self.method_names(fields)?;
         labels(self.alloc, self.rule, &methods)?;
         let stables = self.stable_names(fields)?;
@@ -267,7 +267,7 @@ impl Walk {
         }
         let name = self.actor_name(actor)?;
         names.append(name)?;
-        together(self.rule, &names)
+        together(self.alloc, self.rule, &names)
     }
 
     fn program_scope(
@@ -283,11 +283,18 @@ impl Walk {
         let imports = self.imports_of(imports)?;
         let types = self.all_types(actor.fields.as_slice())?;
         Ok(Scope {
-            values,
+            values: table_of(self.alloc, values)?,
             imports,
-            types,
+            types: table_of(self.alloc, types)?,
             loops: Names::new(self.alloc),
         })
+    }
+
+    fn actor_fields(self, imports: &[Node<mo_syntax::Import>], actor: &Actor) -> Result<(), Wrong>
+        ensures { Judged result (list_all (actor_field self.rule (program_scope self.rule imports.now actor.now)) actor.now.fields) }
+    {
+        let mut scope = self.program_scope(imports, actor)?;
+        self.each_actor_field(actor.fields.as_slice(), &mut scope)
     }
 
     #[tactic(auto, unfolding(crate::specs::ProgramRules::actor_rule))]
@@ -295,9 +302,7 @@ impl Walk {
         ensures { Judged result (actor_rule self.rule imports.now actor.now) }
     {
         self.actor_names(actor.fields.as_slice())?;
-        let mut scope = self.program_scope(imports, actor)?;
-        self.each_actor_field(actor.fields.as_slice(), &mut scope)?;
-        Ok(())
+        self.actor_fields(imports, actor)
     }
 
     /// The rule on the name of the actor.

@@ -1,11 +1,12 @@
 //! What names mean at a place.
-ghost use Rattle.std.specs.Prelude.{◌≡◌, ◌++◌, ◌∷◌, [], ◌||◌, take, OnOk, List, ℕ, length};
+ghost use Rattle.std.specs.Prelude.{◌≡◌, ◌++◌, ◌∷◌, [], ◌||◌, take, OnOk, IfOk, List, ℕ, length};
 ghost use Rattle.std.specs.List.{list_any};
 ghost use Rattle.std.specs.Str.{bytes_eq};
 ghost use Rattle.mo_names.specs.Rules.{contains};
 ghost use Rattle.mo_names.specs.Scopes.{imported, value_known, type_known, loop_known, member_known, with_values, with_types, with_loop, without_loops};
 
 use crate::library::{Library, has_member, is_built_in_type};
+use mo_name_table::NameTable;
 use mo_num::{Memory, Sequence};
 use mo_syntax::Name;
 use std::alloc::Global;
@@ -81,10 +82,29 @@ pub(crate) struct Import {
 /// What has a meaning at a place: values, modules, types and labels of loops.
 #[derive(Drop)]
 pub(crate) struct Scope {
-    pub values: Names,
+    pub values: NameTable,
     pub imports: Sequence<Import>,
-    pub types: Names,
+    pub types: NameTable,
     pub loops: Names,
+}
+
+/// Adds names at the end of a table.
+fn append(table: &mut NameTable, names: Names) -> Result<(), Memory>
+    ensures { OnOk result (table.new ≡ table.old ++ names) }
+{
+    for name in names.list {
+        table.push(name)?;
+    }
+    Ok(())
+}
+
+/// The table of names.
+pub(crate) fn table_of(alloc: Global, names: Names) -> Result<NameTable, Memory>
+    ensures { IfOk result (λ made. made ≡ names) }
+{
+    let mut table = NameTable::new(alloc);
+    append(&mut table, names)?;
+    Ok(table)
 }
 
 /// Whether the name is one of these.
@@ -114,20 +134,20 @@ impl Scope {
     pub(crate) fn value_known(&self, name: &Name) -> bool
         ensures { result ≡ value_known self.now name.now }
     {
-        contains(self.values.as_slice(), name)
+        self.values.contains(name)
     }
 
     pub(crate) fn member_known(&self, module_name: &Name, member: &Name) -> bool
         ensures { result ≡ member_known self.now module_name.now member.now }
     {
-        contains(self.values.as_slice(), module_name)
+        self.values.contains(module_name)
             || is_imported(self.imports.as_slice(), module_name, member)
     }
 
     pub(crate) fn type_known(&self, name: &Name) -> bool
         ensures { result ≡ type_known self.now name.now }
     {
-        contains(self.types.as_slice(), name) || is_built_in_type(name.as_slice())
+        self.types.contains(name) || is_built_in_type(name.as_slice())
     }
 
     pub(crate) fn loop_known(&self, name: &Name) -> bool
@@ -139,13 +159,13 @@ impl Scope {
     pub(crate) fn add_values(&mut self, names: Names) -> Result<(), Memory>
         ensures { OnOk result (self.new ≡ with_values names self.old) }
     {
-        self.values.append(names)
+        append(&mut self.values, names)
     }
 
     pub(crate) fn add_types(&mut self, names: Names) -> Result<(), Memory>
         ensures { OnOk result (self.new ≡ with_types names self.old) }
     {
-        self.types.append(names)
+        append(&mut self.types, names)
     }
 
     pub(crate) fn add_loop(&mut self, name: Name) -> Result<(), Memory>

@@ -14,7 +14,7 @@ impl Walk {
     pub(crate) fn labels_together(self, names: &Names) -> Result<(), Wrong>
         ensures { Judged result (together self.rule names.now && labels self.rule names.now) }
     {
-        together(self.rule, names)?;
+        together(self.alloc, self.rule, names)?;
         labels(self.alloc, self.rule, names)
     }
 
@@ -79,7 +79,7 @@ impl Walk {
         for one in items {
             self.type_item(one.get(), scope, &mut names)?;
         }
-        together(self.rule, &names)
+        together(self.alloc, self.rule, &names)
     }
 
     #[cycle(type_expression)]

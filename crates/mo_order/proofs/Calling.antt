@@ -5,7 +5,10 @@ use Rattle.std.proofs.Math.Logic.{⊎_elim}
 use Rattle.std.proofs.lemmas.Grind.{flat_map-append}
 use Rattle.mo_names.specs.Rules.{Names, contains}
 use Rattle.mo_names.specs.Order.{Step, Uses, InOrder, without}
-use Rattle.mo_order.specs.Reach.{caller, callers, Leads, Reached}
+use Rattle.std.specs.Str.{bytes_eq}
+use Rattle.std.proofs.lemmas.Slice.Eq.{bytes_eq-Decides}
+use Rattle.mo_order.specs.Calls.{mentions, mentions_of}
+use Rattle.mo_order.specs.Reach.{Leads, Reached}
 use Rattle.mo_order.proofs.Having.{never, to_true, of_true, or_left, or_right, or_cases, has_left, has_right, has_cases, without_cases, without_has}
 
 -- a function of the list that calls x and is f
@@ -13,28 +16,47 @@ abbrev pub Calls : List Step → List ℕ → List ℕ → Type 0
 Calls steps x f = (before : List Step) × (after : List Step) × (step : Step) × (steps ≡ before ++ step ∷ after)
     × IsTrue (contains step.occurs x) × IsTrue (contains step.functions f)
 
-caller_has : (late names : Names) (b : Bool) (f : List ℕ) → IsTrue (contains (cond b (without late names) []) f) → IsTrue b × IsTrue (contains names f)
-caller_has late names true f h = (of_true true refl, without_has late names f h)
-caller_has late names false f h = never h
+same : (x y : List ℕ) → bytes_eq x y ≡ true → x ≡ y
+same x y h = (bytes_eq-Decides x y).0 h
 
-caller_all : (late names : Names) (b : Bool) (f : List ℕ) → IsTrue b → IsTrue (contains names f) → IsTrue (contains late f) ⊎ IsTrue (contains (cond b (without late names) []) f)
-caller_all late names true f hb h = without_cases late names f h
-caller_all late names false f hb h = never hb
+itself : (x : List ℕ) → bytes_eq x x ≡ true
+itself x = (bytes_eq-Decides x x).1 refl
 
-pub callers_has : (steps : List Step) (late : Names) (x f : List ℕ) → IsTrue (contains (callers steps late x) f) → Calls steps x f
-callers_has [] late x f h = never h
-callers_has (step ∷ rest) late x f h =
-    ⊎_elim (λ q. let w = caller_has late step.functions (contains step.occurs x) f q in ([], rest, step, refl, w.0, w.1))
-    (λ k. let w = callers_has rest late x f k in (step ∷ w.0, w.1, w.2, ap (λ t. step ∷ t) w.3, w.4, w.5))
-    (has_cases (caller late x step) (callers rest late x) f h)
+-- a name that occurs, where its functions are mentioned
+mention_has : (functions occurs : Names) (x f : List ℕ) → IsTrue (contains (flat_map (λ o. cond (bytes_eq o x) functions []) occurs) f)
+    → IsTrue (contains occurs x) × IsTrue (contains functions f)
+mention_has functions [] x f h = never h
+mention_has functions (o ∷ os) x f h = by (bytes_eq o x) refl (λ k. mention_has functions os x f k) h where
+  by : (b : Bool) → bytes_eq o x ≡ b → (IsTrue (contains (flat_map (λ o. cond (bytes_eq o x) functions []) os) f) → IsTrue (contains os x) × IsTrue (contains functions f))
+      → IsTrue (contains (cond b functions [] ++ flat_map (λ o. cond (bytes_eq o x) functions []) os) f) → IsTrue (contains (o ∷ os) x) × IsTrue (contains functions f)
+  by true e r h =
+      let here : IsTrue (contains (o ∷ os) x) = or_left (bytes_eq x o) (contains os x) (of_true (bytes_eq x o) (ap (λ z. bytes_eq x z) (same o x e) ∙ itself x)) in
+      ⊎_elim (λ q. (here, q)) (λ k. let w = r k in (or_right (bytes_eq x o) (contains os x) w.0, w.1)) (has_cases functions (flat_map (λ o. cond (bytes_eq o x) functions []) os) f h)
+  by false e r h = let w = r h in (or_right (bytes_eq x o) (contains os x) w.0, w.1)
 
-pub callers_all : (steps before after : List Step) (step : Step) (late : Names) (x f : List ℕ) → steps ≡ before ++ step ∷ after
-    → IsTrue (contains step.occurs x) → IsTrue (contains step.functions f) → IsTrue (contains late f) ⊎ IsTrue (contains (callers steps late x) f)
-callers_all steps before after step late x f e ho hf =
-    ⊎_elim (λ q. inl q)
-    (λ k. inr (rw (e, flat_map-append (caller late x) before (step ∷ after))
-    (has_right (callers before late x) (caller late x step ++ callers after late x) f (has_left (caller late x step) (callers after late x) f k))))
-    (caller_all late step.functions (contains step.occurs x) f ho hf)
+mention_all : (functions occurs : Names) (x f : List ℕ) → IsTrue (contains occurs x) → IsTrue (contains functions f)
+    → IsTrue (contains (flat_map (λ o. cond (bytes_eq o x) functions []) occurs) f)
+mention_all functions [] x f ho hf = never ho
+mention_all functions (o ∷ os) x f ho hf =
+    ⊎_elim
+    (λ q. let e : x ≡ o = same x o (to_true (bytes_eq x o) q) in
+    let t : bytes_eq o x ≡ true = ap (λ z. bytes_eq z x) (sym e) ∙ itself x in
+    has_left (cond (bytes_eq o x) functions []) (flat_map (λ o. cond (bytes_eq o x) functions []) os) f (subst (λ b. IsTrue (contains (cond b functions []) f)) (sym t) hf))
+    (λ k. has_right (cond (bytes_eq o x) functions []) (flat_map (λ o. cond (bytes_eq o x) functions []) os) f (mention_all functions os x f k hf))
+    (or_cases (bytes_eq x o) (contains os x) ho)
+
+pub mentions_has : (steps : List Step) (x f : List ℕ) → IsTrue (contains (mentions steps x) f) → Calls steps x f
+mentions_has [] x f h = never h
+mentions_has (step ∷ rest) x f h =
+    ⊎_elim (λ q. let w = mention_has step.functions step.occurs x f q in ([], rest, step, refl, w.0, w.1))
+    (λ k. let w = mentions_has rest x f k in (step ∷ w.0, w.1, w.2, ap (λ t. step ∷ t) w.3, w.4, w.5))
+    (has_cases (mentions_of step x) (mentions rest x) f h)
+
+pub mentions_all : (steps before after : List Step) (step : Step) (x f : List ℕ) → steps ≡ before ++ step ∷ after
+    → IsTrue (contains step.occurs x) → IsTrue (contains step.functions f) → IsTrue (contains (mentions steps x) f)
+mentions_all steps before after step x f e ho hf =
+    rw (e, flat_map-append (λ s. mentions_of s x) before (step ∷ after))
+    (has_right (mentions before x) (mentions_of step x ++ mentions after x) f (has_left (mentions_of step x) (mentions after x) f (mention_all step.functions step.occurs x f ho hf)))
 
 -- What leads to a target in fewer leads to one in more.
 pub leads_more : (steps : List Step) (targets more : Names) (x : List ℕ) → Leads steps targets x → Leads steps (more ++ targets) x

@@ -1,5 +1,5 @@
 -- How the names that lead to targets grow, and what they say of order.
-use Rattle.std.proofs.Common.{◌≡◌, ℕ, zero, suc, ◌+◌, ◌<◌, ◌≤◌, Bool, true, false, List, [], ◌∷◌, ◌++◌, take, drop, length, get_or, refl, ap, sym, ◌∙◌, subst, cond, IsTrue, inl, inr, ◌⊎◌, arith, Result, Ok, Err, OnOk}
+use Rattle.std.proofs.Common.{◌≡◌, ℕ, zero, suc, ◌+◌, ◌<◌, ◌≤◌, Bool, true, false, List, [], ◌∷◌, ◌++◌, take, drop, length, get_or, refl, ap, sym, ◌∙◌, subst, cond, IsTrue, inl, inr, ◌⊎◌, arith, Result, Ok, Err, OnOk, append_assoc, append-nil}
 use Rattle.std.specs.List.{flat_map}
 use Rattle.std.specs.Str.{bytes_eq}
 use Rattle.std.proofs.Math.Logic.{⊎_elim}
@@ -10,9 +10,10 @@ use Rattle.mo_names.specs.Order.{Step, Uses, InOrder, without}
 use Rattle.mo_order.specs.declared.misplaced.Misplaced.{Misplaced}
 use Rattle.mo_order.specs.declared.misplaced.Misplaced.TheVariants as misplaced
 use Rattle.mo_order.specs.Judged.{Judged}
-use Rattle.mo_order.specs.Reach.{caller, callers, Leads, Reached, defined, RestInOrder, Ahead, Apart, Fits, Tested}
+use Rattle.mo_order.specs.Calls.{mentions}
+use Rattle.mo_order.specs.Reach.{Leads, Reached, Grown, defined, RestInOrder, Ahead, Apart, Fits, Tested}
 use Rattle.mo_order.proofs.Having.{never, to_true, of_true, or_left, or_right, or_cases, has_left, has_right, has_cases, has_one, is_one}
-use Rattle.mo_order.proofs.Calling.{Calls, callers_has, callers_all, leads_more, leads_target, leads_caller}
+use Rattle.mo_order.proofs.Calling.{Calls, mentions_has, mentions_all, leads_more, leads_target, leads_caller}
 
 has_at : (late : Names) (n : ℕ) → n < length late → IsTrue (contains late (get_or late n []))
 has_at late n lt =
@@ -26,26 +27,60 @@ take_next late more n lt =
     let e : n + 1 ≡ suc n = omega arith in
     take-append-le (n + 1) late more le ∙ (ap (λ k. take k late) e ∙ take-suc late n [] lt)
 
+-- ---- names that are added where they are not there yet
+
+pub grown_none : (late : Names) → Grown late [] late
+grown_none late = record { extra = []; longer = sym (append-nil late); origin = λ x h. h; every = λ x h. never h }
+
+pub grown_kept : (old more late : Names) (x : List ℕ) → Grown old more late → contains late x ≡ true → Grown old (more ++ x ∷ []) late
+grown_kept old more late x g h = record {
+  extra = g.extra;
+  longer = g.longer;
+  origin = λ y k. has_left more (x ∷ []) y (g.origin y k);
+  every = λ y k. ⊎_elim (λ q. g.every y q) (λ q. subst (λ z. IsTrue (contains late z)) (sym (is_one y x q)) (of_true (contains late x) h)) (has_cases more (x ∷ []) y k);
+}
+
+pub grown_more : (old more late : Names) (x : List ℕ) → Grown old more late → Grown old (more ++ x ∷ []) (late ++ x ∷ [])
+grown_more old more late x g = record {
+  extra = g.extra ++ x ∷ [];
+  longer = ap (λ t. t ++ x ∷ []) g.longer ∙ append_assoc old g.extra (x ∷ []);
+  origin = λ y k. ⊎_elim (λ q. has_left more (x ∷ []) y (g.origin y q)) (λ q. has_right more (x ∷ []) y q) (has_cases g.extra (x ∷ []) y k);
+  every = λ y k. ⊎_elim (λ q. has_left late (x ∷ []) y (g.every y q)) (λ q. has_right late (x ∷ []) y q) (has_cases more (x ∷ []) y k);
+}
+
+next_taken : (names : Names) (i : ℕ) (x : List ℕ) → i < length names → x ≡ get_or names i x → take (i + 1) names ≡ take i names ++ x ∷ []
+next_taken names i x l e = let n : i + 1 ≡ suc i = omega arith in ap (λ k. take k names) n ∙ (take-suc names i x l ∙ ap (λ z. take i names ++ z ∷ []) (sym e))
+
+pub grown_kept_at : (old names late : Names) (i : ℕ) (x : List ℕ) → i < length names → x ≡ get_or names i x → Grown old (take i names) late → contains late x ≡ true
+    → Grown old (take (i + 1) names) late
+grown_kept_at old names late i x l e g h = subst (λ t. Grown old t late) (sym (next_taken names i x l e)) (grown_kept old (take i names) late x g h)
+
+pub grown_more_at : (old names late new : Names) (i : ℕ) (x : List ℕ) → i < length names → x ≡ get_or names i x → Grown old (take i names) late → new ≡ late ++ x ∷ []
+    → Grown old (take (i + 1) names) new
+grown_more_at old names late new i x l e g n =
+    subst (λ t. Grown old t new) (sym (next_taken names i x l e)) (subst (λ t. Grown old (take i names ++ x ∷ []) t) (sym n) (grown_more old (take i names) late x g))
+
 -- with what calls one more name
-pub grow : (steps : List Step) (targets late : Names) (n : ℕ) → n < length late → Reached steps targets late n
-    → Reached steps targets (late ++ callers steps late (get_or late n [])) (n + 1)
-grow steps targets late n lt r =
+pub grow : (steps : List Step) (targets late new : Names) (n : ℕ) → n < length late → Grown late (mentions steps (get_or late n [])) new → Reached steps targets late n
+    → Reached steps targets new (n + 1)
+grow steps targets late new n lt g r =
     let z = get_or late n [] in
-    let more = callers steps late z in
+    let more = mentions steps z in
+    let to_new : (x : List ℕ) → IsTrue (contains late x) → IsTrue (contains new x) = λ x h. subst (λ t. IsTrue (contains t x)) (sym g.longer) (has_left late g.extra x h) in
     record {
-      covers = λ x h. has_left late more x (r.covers x h);
-      leads = λ x h. ⊎_elim (λ q. r.leads x q) (λ k. leads_caller steps targets z x (callers_has steps late z x k) (r.leads z (has_at late n lt))) (has_cases late more x h);
+      covers = λ x h. to_new x (r.covers x h);
+      leads = λ x h. ⊎_elim (λ q. r.leads x q) (λ k. leads_caller steps targets z x (mentions_has steps z x (g.origin x k)) (r.leads z (has_at late n lt)))
+          (has_cases late g.extra x (subst (λ t. IsTrue (contains t x)) g.longer h));
       closed = λ before after step x f e hx ho hf.
-          ⊎_elim (λ q. has_left late more f (r.closed before after step x f e q ho hf))
-          (λ q. ⊎_elim (λ a. has_left late more f a) (λ b. has_right late more f b)
-          (callers_all steps before after step late z f e (subst (λ t. IsTrue (contains step.occurs t)) (is_one x z q) ho) hf))
-          (has_cases (take n late) (z ∷ []) x (subst (λ t. IsTrue (contains t x)) (take_next late more n lt) hx));
+          ⊎_elim (λ q. to_new f (r.closed before after step x f e q ho hf))
+          (λ q. g.every f (mentions_all steps before after step z f e (subst (λ t. IsTrue (contains step.occurs t)) (is_one x z q) ho) hf))
+          (has_cases (take n late) (z ∷ []) x (subst (λ t. IsTrue (contains t x)) (ap (λ t. take (n + 1) t) g.longer ∙ take_next late g.extra n lt) hx));
     }
 
-pub grow_all : (steps : List Step) (start late new : Names) (from n : ℕ) → n < length late → new ≡ late ++ callers steps late (get_or late n [])
+pub grow_all : (steps : List Step) (start late new : Names) (from n : ℕ) → n < length late → Grown late (mentions steps (get_or late n [])) new
     → ((targets : Names) → Reached steps targets start from → Reached steps targets late n)
     → (targets : Names) → Reached steps targets start from → Reached steps targets new (n + 1)
-grow_all steps start late new from n lt e h targets r = subst (λ t. Reached steps targets t (n + 1)) (sym e) (grow steps targets late n lt (h targets r))
+grow_all steps start late new from n lt g h targets r = grow steps targets late new n lt g (h targets r)
 
 take_all : (n : ℕ) (xs : Names) → length xs ≤ n → take n xs ≡ xs
 take_all zero [] le = refl

@@ -3,3 +3,4 @@ pub mod Having
 pub mod Calling
 pub mod Growing
 pub mod Faults
+pub mod Noting

@@ -1,4 +1,5 @@
 pub mod Parts
 pub mod Judged
+pub mod Calls
 pub mod Reach
 pub mod Fault

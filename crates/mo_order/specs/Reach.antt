@@ -6,13 +6,12 @@ use Rattle.mo_order.specs.declared.misplaced.Misplaced.TheVariants as misplaced
 use Rattle.mo_names.specs.Rules.{Names, contains}
 use Rattle.mo_names.specs.Order.{Step, Uses, InOrder, without}
 
--- the function, where the name occurs in its body and the function isn't among these yet
-abbrev pub caller : Names → List ℕ → Step → Names
-caller late x step = cond (contains step.occurs x) (without late step.functions) []
-
--- the functions in whose bodies the name occurs, and that aren't among these yet
-abbrev pub callers : List Step → Names → List ℕ → Names
-callers steps late x = flat_map (caller late x) steps
+-- The list grew at its end by names of these alone, and now it has all of them.
+pub record Grown (old more new : Names) : Type 0 where
+  pub extra : Names
+  pub longer : new ≡ old ++ extra
+  pub origin : (x : List ℕ) → IsTrue (contains extra x) → IsTrue (contains more x)
+  pub every : (x : List ℕ) → IsTrue (contains more x) → IsTrue (contains new x)
 
 -- Where the name is used, one of the targets is used.
 abbrev pub Leads : List Step → Names → List ℕ → Type 0

@@ -1,71 +1,74 @@
 //! The names through which what is defined late is reached.
 ghost use Rattle.std.specs.Prelude.{◌≡◌, ◌++◌, ◌<◌, ◌∷◌, [], OnOk, length, cond, slice_index_or, List, ℕ};
 ghost use Rattle.mo_names.specs.Rules.{Names};
-ghost use Rattle.mo_order.specs.Reach.{callers, caller, Reached};
+ghost use Rattle.mo_names.specs.Order as order;
+ghost use Rattle.mo_order.specs.Calls.{Mentioned, mentions};
+ghost use Rattle.mo_order.specs.Reach.{Reached, Grown};
 
-use crate::step::{Names, Step, append, contains, push_copies, push_without};
-use mo_num::{Memory, Sequence};
+use crate::calls::Calls;
+use crate::step::Step;
+use mo_name_table::NameTable;
+use mo_num::Memory;
 use mo_syntax::Name;
 use std::alloc::Global;
 
-/// Adds the function where the name occurs in its body and the function isn't among these.
-fn push_caller(
-    alloc: Global,
-    step: &Step,
-    late: &[Name],
-    name: &Name,
-    more: &mut Names,
-) -> Result<(), Memory>
-    ensures { OnOk result (more.new ≡ more.old ++ caller late.now name.now step.now) }
+/// Adds a copy of a name.
+fn push_copy(alloc: Global, late: &mut NameTable, name: &Name) -> Result<(), Memory>
+    ensures { OnOk result (late.new ≡ late.old ++ name.now ∷ []) }
 {
-    if contains(step.occurs(), name) {
-        push_without(alloc, more, late, step.functions())
-    } else {
-        Ok(())
-    }
+    let copy = Name::new(alloc, name.place(), name.as_slice())?;
+    late.push(copy)
 }
 
-fn push_callers(
-    alloc: Global,
-    steps: &[Step],
-    late: &[Name],
-    name: &Name,
-    more: &mut Names,
-) -> Result<(), Memory>
-    ensures { OnOk result (more.new ≡ more.old ++ callers steps.now late.now name.now) }
+/// Adds copies of names.
+fn push_copies(alloc: Global, late: &mut NameTable, names: &[Name]) -> Result<(), Memory>
+    ensures { OnOk result (late.new ≡ late.old ++ names.now) }
 {
-    for one in steps {
-        push_caller(alloc, one, late, name, more)?;
+    for name in names {
+        push_copy(alloc, late, name)?;
     }
     Ok(())
 }
 
-/// Adds the functions that reach the name at this place.
-fn grow(alloc: Global, steps: &[Step], late: &mut Names, next: usize) -> Result<(), Memory>
-    requires { next < length late.old }
-    ensures { OnOk result (late.new ≡ late.old ++ callers steps.now late.old (slice_index_or late.old next [])) }
+/// Adds copies of the names that are not there yet.
+#[tactic(auto, using(crate::proofs::Growing::grown_more_at, crate::proofs::Growing::grown_kept_at, crate::proofs::Growing::grown_none))]
+fn push_new(alloc: Global, late: &mut NameTable, names: &[Name]) -> Result<(), Memory>
+    ensures { OnOk result (Grown late.old names.now late.new) }
 {
-    let mut more = Sequence::new(alloc);
-    push_callers(
-        alloc,
-        steps,
-        late.as_slice(),
-        &late.as_slice()[next],
-        &mut more,
-    )?;
-    append(late, more)
+    for name in names {
+        if !late.contains(name) {
+            push_copy(alloc, late, name)?;
+        }
+    }
+    Ok(())
+}
+
+/// Adds the functions in whose bodies the name at this place occurs.
+fn grow(alloc: Global, calls: &Calls, late: &mut NameTable, next: usize) -> Result<(), Memory>
+    requires { next < length late.old }
+    ensures { (steps : List order.Step) → OnOk result (Mentioned steps calls.now.functions → Grown late.old (mentions steps (slice_index_or late.old next [])) late.new) }
+{
+    let found = calls.at(alloc, &late.as_slice()[next])?;
+    push_new(alloc, late, found)
 }
 
 /// Adds all functions that reach the names from this place on. No vector is as long as the greatest number, so the loop ends by itself.
 #[tactic(auto, using(crate::proofs::Growing::grow_all, crate::proofs::Growing::whole))]
-fn close(alloc: Global, steps: &[Step], late: &mut Names, from: usize) -> Result<(), Memory>
+fn close(
+    alloc: Global,
+    steps: &[Step],
+    calls: &Calls,
+    late: &mut NameTable,
+    from: usize,
+) -> Result<(), Memory>
+    requires { Mentioned steps.now calls.now.functions }
     ensures { (targets : Names) → OnOk result (Reached steps.now targets late.old from → Reached steps.now targets late.new (length late.new)) }
 {
     for next in from..usize::MAX {
         if next >= late.len() {
             return Ok(());
         }
-        grow(alloc, steps, late, next)?;
+        grow(alloc, calls, late, next)?;
     }
     Err(Memory)
 }
@@ -75,12 +78,14 @@ fn close(alloc: Global, steps: &[Step], late: &mut Names, from: usize) -> Result
 pub(crate) fn enter(
     alloc: Global,
     steps: &[Step],
+    calls: &Calls,
     step: &Step,
-    late: &mut Names,
+    late: &mut NameTable,
 ) -> Result<(), Memory>
+    requires { Mentioned steps.now calls.now.functions }
     ensures { (targets : Names) → OnOk result (Reached steps.now targets late.old (length late.old) → Reached steps.now (step.now.defines ++ targets) late.new (length late.new)) }
 {
     let from = late.len();
     push_copies(alloc, late, step.defines())?;
-    close(alloc, steps, late, from)
+    close(alloc, steps, calls, late, from)
 }

@@ -5,6 +5,7 @@ ghost use Rattle.mo_names.specs.Rules.{contains};
 ghost use Rattle.mo_names.specs.Order.{Step, without, names_of_steps};
 ghost use Rattle.mo_order.specs.Parts.{occurring};
 
+use mo_name_table::NameTable;
 use mo_num::{Memory, Sequence};
 use mo_syntax::Name;
 use std::alloc::Global;
@@ -102,22 +103,26 @@ pub(crate) fn one_name(alloc: Global, name: &Name) -> Result<Names, Memory>
     Ok(names)
 }
 
-/// Whether the name is one of these.
-pub(crate) fn contains(names: &[Name], name: &Name) -> bool
-    ensures { result ≡ contains names.now name.now }
+/// The table of names.
+pub(crate) fn table_of(alloc: Global, names: Names) -> Result<NameTable, Memory>
+    ensures { IfOk result (λ made. made ≡ names) }
 {
-    for one in names {
-        if name.same(one) {
-            return true;
-        }
+    let mut table = NameTable::new(alloc);
+    for name in names.into_vec() {
+        table.push(name)?;
     }
-    false
+    Ok(table)
 }
 
-fn push_unless(alloc: Global, names: &mut Names, bound: &[Name], name: &Name) -> Result<(), Memory>
+fn push_unless(
+    alloc: Global,
+    names: &mut Names,
+    bound: &NameTable,
+    name: &Name,
+) -> Result<(), Memory>
     ensures { OnOk result (names.new ≡ names.old ++ without bound.now (name.now ∷ [])) }
 {
-    if contains(bound, name) {
+    if bound.contains(name) {
         Ok(())
     } else {
         push_copy(alloc, names, name)
@@ -128,7 +133,7 @@ fn push_unless(alloc: Global, names: &mut Names, bound: &[Name], name: &Name) ->
 pub(crate) fn push_without(
     alloc: Global,
     names: &mut Names,
-    bound: &[Name],
+    bound: &NameTable,
     more: &[Name],
 ) -> Result<(), Memory>
     ensures { OnOk result (names.new ≡ names.old ++ without bound.now more.now) }
@@ -155,7 +160,7 @@ pub(crate) fn names_of_steps(alloc: Global, steps: &[Step]) -> Result<Names, Mem
 pub(crate) fn push_occurring(
     alloc: Global,
     names: &mut Names,
-    bound: &[Name],
+    bound: &NameTable,
     steps: &[Step],
 ) -> Result<(), Memory>
     ensures { OnOk result (names.new ≡ names.old ++ without bound.now (occurring steps.now)) }

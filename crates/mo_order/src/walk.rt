@@ -6,7 +6,7 @@ ghost use Rattle.mo_order.specs.Parts.{found_member, found_case, found_field, fr
 use crate::patterns::{parameter_values, pattern_names};
 use crate::step::{
     Lists, Names, Step, Steps, append, names_of_steps, one_name, push_copy, push_occurring,
-    push_without,
+    push_without, table_of,
 };
 use mo_num::{Memory, Sequence};
 use mo_syntax::{Case, Declaration, DeclarationField, Expression, ExpressionField, Node};
@@ -55,7 +55,8 @@ impl Walk {
         ensures lists { OnOk result (lists.new ≡ lists.old ++ steps ∷ inner) }
     {
         let bound = names_of_steps(self.alloc, steps.as_slice())?;
-        push_occurring(self.alloc, free, bound.as_slice(), steps.as_slice())?;
+        let bound = table_of(self.alloc, bound)?;
+        push_occurring(self.alloc, free, &bound, steps.as_slice())?;
         lists.push(steps)?;
         append(lists, inner)
     }
@@ -173,7 +174,8 @@ impl Walk {
     {
         let mut inner = Sequence::new(self.alloc);
         self.expression(body, &mut inner, lists)?;
-        push_without(self.alloc, free, bound.as_slice(), inner.as_slice())
+        let bound = table_of(self.alloc, bound)?;
+        push_without(self.alloc, free, &bound, inner.as_slice())
     }
 
     #[cycle(expression)]
@@ -312,7 +314,8 @@ impl Walk {
     {
         let mut inner = Sequence::new(self.alloc);
         self.members(fields, &mut inner, lists)?;
-        push_without(self.alloc, free, bound.as_slice(), inner.as_slice())
+        let bound = table_of(self.alloc, bound)?;
+        push_without(self.alloc, free, &bound, inner.as_slice())
     }
 
     #[cycle(expression)]

@@ -1,7 +1,5 @@
-use Rattle.std.proofs.Common.{◌≡◌, ◌∷◌, ◌+◌, drop, arith, subst}
+use Rattle.std.proofs.Common.{◌≡◌, ◌∷◌, ◌+◌, drop, arith}
 use Rattle.std.proofs.lemmas.Grind.{common_steps}
-use Rattle.mo_order.specs.Judged.{Judged}
-use Rattle.mo_order.specs.Reach.{Fits}
 use Rattle.mo_order.proofs.Growing.{tested}
 use Rattle.mo_order.proofs.order.test_step.Goals as goal
 
@@ -9,5 +7,4 @@ pub returns : goal.returns
 returns c =
     let step = c.index-steps-index.result in
     let e : drop c.args.index c.args.steps.now ≡ step ∷ drop (c.args.index + 1) c.args.steps.now = grind (arith, common_steps) in
-    tested c.fits.result c.args.steps.now c.args.index step c.args.late.now c.enter.new.late e c.in_ok-enter.ensures
-    (subst (λ t. Judged c.fits.result (Fits step t)) c.as_slice.ensures c.fits.ensures)
+    tested c.fits.result c.args.steps.now c.args.index step c.args.late.now c.enter.new.late e c.in_ok-enter.ensures c.fits.ensures

@@ -1,0 +1,6 @@
+use Rattle.std.proofs.Common.{take}
+use Rattle.mo_order.specs.Reach.{Grown}
+use Rattle.mo_order.proofs.reach.push_new.Given as goal
+
+abbrev pub invariant-loop-name : goal.invariant-loop-name
+invariant-loop-name l = Grown l.initial.late (take l.name-index l.names) l.late

@@ -1,0 +1,18 @@
+//! Measures the resolution of names on generated sources.
+#![tactic(auto)]
+
+mod measure;
+mod source;
+#[cfg(test)]
+mod tests;
+
+use std::{env, io};
+
+fn main(rt: HostRuntime) -> io::Result<()> {
+    let mut words = env::args(&rt)?;
+    let _ = words.next();
+    match words.next() {
+        Some(word) if word.as_str() == "run" => measure::all(&rt, rt.alloc()),
+        _ => println!(rt; "usage: names_bench run"),
+    }
+}
