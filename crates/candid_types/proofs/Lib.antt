@@ -1,0 +1,5 @@
+pub mod Sorting
+pub mod Orders
+pub mod NumberLemmas
+pub mod Tables
+pub mod Natural
