@@ -1,0 +1,4 @@
+pub mod Grow
+pub mod Heads
+pub mod Closed
+pub mod Same

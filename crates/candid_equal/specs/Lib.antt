@@ -1,0 +1,4 @@
+pub mod Refs
+pub mod Pairs
+pub mod Asks
+pub mod Types

@@ -1,0 +1,13 @@
+//! Whether the types of a header are equal to declared ones.
+#![tactic(auto)]
+
+mod ask;
+mod pair;
+mod search;
+#[cfg(test)]
+mod tests;
+mod types;
+
+pub use pair::Pair;
+pub use search::are_equal;
+pub use types::has_types;

@@ -1,0 +1,8 @@
+pub mod Exact
+pub mod Numbers
+pub mod Names
+pub mod Many
+pub mod Refs
+pub mod Lists
+pub mod Entries
+pub mod Whole

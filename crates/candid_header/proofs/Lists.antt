@@ -1,0 +1,218 @@
+-- Lists of a header are read exactly.
+use Rattle.std.proofs.Common.{◌≡◌, ℕ, zero, suc, ◌≤◌, true, false, cond, List, [], ◌∷◌, ◌++◌, length, take, drop, Option, Some, None, Result, Ok, Err, ◌⊎◌, inl, inr, refl, sym, ap, ◌∙◌, subst, append_assoc, length-append, arith}
+use Rattle.std.specs.Prelude.{nat_lt}
+use Rattle.std.proofs.lemmas.Bool.{lt-ltb, le-ltb, ltb-true, ltb-false}
+use Rattle.std.proofs.Math.Seq.{drop-append_seam, take-append_seam}
+use Rattle.std.proofs.Common.{take-append-drop, length-take-le}
+use Rattle.mo_types.specs.Sub.{Each}
+use Rattle.mo_types.specs.declared.wire.Entry.{Entry}
+use Rattle.mo_types.specs.declared.wire.Method.{Method}
+use Rattle.mo_types.specs.declared.wire.TableRef.{TableRef}
+use Rattle.mo_types.specs.Spelling.{padded, Then, IsString}
+use Rattle.mo_types.specs.Header.{IsByte, IsEach, IsList, IsField, IsMethod, IsTableRef, IsWithin, RisingIds, RisingNames}
+use Rattle.candid_header.specs.declared.fault.Fault.{Fault}
+use Rattle.candid_header.specs.declared.fault.Fault.TheVariants.{BadTable, Short}
+use Rattle.candid_header.specs.Reading.{◌>>=◌, Reading, many, list_at, u32_at, split_at, string_at}
+use Rattle.candid_header.specs.Table.{ref_item, no_state, rises, id_at, field, field_at, id_of, name_rises, method_name_at, method, method_at, name_of, ref_at, refs_at, bytes_at}
+use Rattle.candid_header.proofs.Exact.{Front, Exact, okay, refused, refused_ok, ok_is, bind_ok, chosen, same_pair, renamed, both_exact, made_exact, kept_exact}
+use Rattle.candid_header.proofs.Numbers.{IsU32, u32_exact}
+use Rattle.candid_header.proofs.Refs.{IsRefIn, ref_exact}
+
+-- Strings of bytes.
+split_sound : (n : ℕ) (bytes : List ℕ) (r : List ℕ × List ℕ) → split_at n bytes ≡ Ok r → (bytes ≡ r.0 ++ r.1) × (length r.0 ≡ n)
+split_sound n bytes r e = by (chosen (nat_lt (length bytes) n) (refused Short) (okay (take n bytes, drop n bytes)) (okay r) e)
+  where
+    by : ((nat_lt (length bytes) n ≡ true) × (refused Short ≡ okay r)) ⊎ ((nat_lt (length bytes) n ≡ false) × (okay (take n bytes, drop n bytes) ≡ okay r)) → (bytes ≡ r.0 ++ r.1) × (length r.0 ≡ n)
+    by (inl h) = absurd (refused_ok Short r h.1)
+    by (inr h) = subst (λ z. (bytes ≡ z.0 ++ z.1) × (length z.0 ≡ n)) (ok_is _ r h.1) (sym (take-append-drop n bytes), length-take-le n bytes (ltb-false (length bytes) n h.0))
+
+split_complete : (front rest : List ℕ) → split_at (length front) (front ++ rest) ≡ Ok (front, rest)
+split_complete front rest =
+    let le : length front ≤ length (front ++ rest) = omega (arith, length-append front rest) in
+    ap (λ b. cond b (Err Short) (Ok (take (length front) (front ++ rest), drop (length front) (front ++ rest)))) (le-ltb (length (front ++ rest)) (length front) le)
+    ∙ ap (λ t. Ok (t, drop (length front) (front ++ rest))) (take-append_seam front rest)
+    ∙ ap (λ d. Ok (front, d)) (drop-append_seam front rest)
+
+pub string_exact : (wide : Fault) → Exact (IsString padded) (string_at wide)
+unfolding string_at
+string_exact wide = record {
+  sound = λ bytes r e.
+      let s = bind_ok (u32_at wide bytes) _ r e in
+      let t = split_sound s.0.0 s.0.1 r s.2 in
+      let a = (u32_exact wide).sound bytes s.0 s.1 in
+      record {
+        front = a.front ++ r.0;
+        split = a.split ∙ ap (λ l. a.front ++ l) t.0 ∙ sym (append_assoc a.front r.0 r.1);
+        spells = record { front = a.front; back = r.0; whole = refl; first = subst (λ n. IsU32 n a.front) (sym t.1) a.spells; second = refl };
+      };
+  complete = λ x front rest h.
+      let e : front ++ rest ≡ h.front ++ (x ++ rest) = ap (λ l. l ++ rest) (h.whole ∙ ap (λ l. h.front ++ l) h.second) ∙ append_assoc h.front x rest in
+      let a : u32_at wide (front ++ rest) ≡ Ok (length x, x ++ rest) = ap (u32_at wide) e ∙ (u32_exact wide).complete (length x) h.front (x ++ rest) h.first in
+      ap (λ (s : Result (ℕ × List ℕ) Fault). s >>= λ n. split_at n.0 n.1) a ∙ split_complete x rest;
+}
+
+-- Bytes one by one are the bytes.
+each_byte : (xs l : List ℕ) → IsEach IsByte xs l → l ≡ xs
+each_byte [] l h = h
+each_byte (x ∷ xs) l h = h.whole ∙ ap (λ f. f ++ h.back) h.first ∙ ap (λ b. x ∷ b) (each_byte xs h.back h.second)
+
+byte_each : (xs l : List ℕ) → l ≡ xs → IsEach IsByte xs l
+byte_each [] l e = e
+byte_each (x ∷ xs) l e = record { front = x ∷ []; back = xs; whole = e; first = refl; second = byte_each xs xs refl }
+
+pub bytes_exact : Exact (IsList padded IsByte) bytes_at
+bytes_exact =
+    renamed (IsString padded) (IsList padded IsByte) bytes_at
+    (λ x front h. record { front = h.front; back = h.back; whole = h.whole; first = h.first; second = byte_each x h.back h.second })
+    (λ x front h. record { front = h.front; back = h.back; whole = h.whole; first = h.first; second = each_byte x h.back h.second })
+    (string_exact BadTable)
+
+-- Each item in the light of the one before it.
+abbrev pub Linked : {S A : Type 0} → (Option S → A → Type 0) → (A → Option S) → Option S → List A → Type 0
+Linked R after s [] = Unit {0}
+Linked R after s (x ∷ xs) = R s x × Linked R after (after x) xs
+
+module _ {S A : Type 0} (item : Option S → Reading A) (after : A → Option S) (P : A → List ℕ → Type 0) (R : Option S → A → Type 0) (ep : (s : Option S) → Exact (λ x b. P x b × R s x) (item s)) where
+  abbrev IsItems : ℕ → Option S → List A → List ℕ → Type 0
+  IsItems n s xs l = IsEach P xs l × Linked R after s xs × (length xs ≡ n)
+
+  pub many_sound : (n : ℕ) (s : Option S) (bytes : List ℕ) (r : List A × List ℕ) → many item after n s bytes ≡ okay r → Front (λ xs l. IsEach P xs l × Linked R after s xs × (length xs ≡ n)) bytes r.0 r.1
+  many_sound zero s bytes r e = same_pair (IsItems zero s) bytes ([], bytes) r e (record { front = []; split = refl; spells = (refl, tt, refl) })
+  many_sound (suc n) s bytes r e =
+      let x = bind_ok (item s bytes) _ r e in
+      let t = bind_ok (many item after n (after x.0.0) x.0.1) _ r x.2 in
+      let a = (ep s).sound bytes x.0 x.1 in
+      let b = many_sound n (after x.0.0) x.0.1 t.0 t.1 in
+      same_pair (IsItems (suc n) s) bytes (x.0.0 ∷ t.0.0, t.0.1) r t.2 (record {
+        front = a.front ++ b.front;
+        split = a.split ∙ ap (λ l. a.front ++ l) b.split ∙ sym (append_assoc a.front b.front t.0.1);
+        spells = (record { front = a.front; back = b.front; whole = refl; first = a.spells.0; second = b.spells.0 }, (a.spells.1, b.spells.1), ap suc b.spells.2);
+      })
+
+  pub many_complete : (xs : List A) (s : Option S) (front rest : List ℕ) → IsEach P xs front → Linked R after s xs → many item after (length xs) s (front ++ rest) ≡ Ok (xs, rest)
+  many_complete [] s front rest h k = ap (λ l. Ok ([], l ++ rest)) h
+  many_complete (x ∷ xs) s front rest h k =
+      let e : front ++ rest ≡ h.front ++ (h.back ++ rest) = ap (λ l. l ++ rest) h.whole ∙ append_assoc h.front h.back rest in
+      let a : item s (front ++ rest) ≡ Ok (x, h.back ++ rest) = ap (item s) e ∙ (ep s).complete x h.front (h.back ++ rest) (h.first, k.0) in
+      ap (λ (t : Result (A × List ℕ) Fault). t >>= λ x. many item after (length xs) (after x.0) x.1 >>= λ xs. Ok (x.0 ∷ xs.0, xs.1)) a
+      ∙ ap (λ (t : Result (List A × List ℕ) Fault). t >>= λ xs. Ok (x ∷ xs.0, xs.1)) (many_complete xs (after x) h.back rest h.second k.1)
+
+  pub list_exact : Exact (λ xs b. IsList padded P xs b × Linked R after None xs) (list_at item after)
+  list_exact = record {
+    sound = λ bytes r e.
+        let s = bind_ok (u32_at BadTable bytes) _ r e in
+        let a = (u32_exact BadTable).sound bytes s.0 s.1 in
+        let b = many_sound s.0.0 None s.0.1 r s.2 in
+        record {
+          front = a.front ++ b.front;
+          split = a.split ∙ ap (λ l. a.front ++ l) b.split ∙ sym (append_assoc a.front b.front r.1);
+          spells = (record { front = a.front; back = b.front; whole = refl; first = subst (λ n. IsU32 n a.front) (sym b.spells.2) a.spells; second = b.spells.0 }, b.spells.1);
+        };
+    complete = λ x front rest k.
+        let h = k.0 in
+        let e : front ++ rest ≡ h.front ++ (h.back ++ rest) = ap (λ l. l ++ rest) h.whole ∙ append_assoc h.front h.back rest in
+        let a : u32_at BadTable (front ++ rest) ≡ Ok (length x, h.back ++ rest) = ap (u32_at BadTable) e ∙ (u32_exact BadTable).complete (length x) h.front (h.back ++ rest) h.first in
+        ap (λ (s : Result (ℕ × List ℕ) Fault). s >>= λ n. many item after n.0 None n.1) a ∙ many_complete x None h.back rest h.second k.1;
+  }
+
+-- Types.
+abbrev IsIn : ℕ → Option ℕ → TableRef → Type 0
+IsIn n s r = IsWithin n r
+
+abbrev pub AreRefs : ℕ → List TableRef → List ℕ → Type 0
+AreRefs n rs b = IsList padded (IsTableRef padded) rs b × Each (IsWithin n) rs
+
+linked_refs : (n : ℕ) (s : Option ℕ) (rs : List TableRef) → Linked (IsIn n) no_state s rs → Each (IsWithin n) rs
+linked_refs n s [] h = tt
+linked_refs n s (r ∷ rs) h = (h.0, linked_refs n None rs h.1)
+
+refs_linked : (n : ℕ) (s : Option ℕ) (rs : List TableRef) → Each (IsWithin n) rs → Linked (IsIn n) no_state s rs
+refs_linked n s [] h = tt
+refs_linked n s (r ∷ rs) h = (h.0, refs_linked n None rs h.1)
+
+pub refs_exact : (n : ℕ) → Exact (AreRefs n) (refs_at n)
+refs_exact n =
+    renamed (λ rs b. IsList padded (IsTableRef padded) rs b × Linked (IsIn n) no_state None rs) (AreRefs n) (refs_at n)
+    (λ x front h. (h.0, linked_refs n None x h.1))
+    (λ x front h. (h.0, refs_linked n None x h.1))
+    (list_exact (ref_item n) no_state (IsTableRef padded) (IsIn n) (λ s. ref_exact n))
+
+-- Fields.
+abbrev pub AreFields : ℕ → List (Entry TableRef) → List ℕ → Type 0
+AreFields n es b = IsList padded (IsField padded (IsTableRef padded)) es b × RisingIds es × Each (λ e. IsWithin n e.part) es
+
+abbrev IsNext : ℕ → Option ℕ → Entry TableRef → Type 0
+IsNext n s e = (rises s e.id ≡ true) × IsWithin n e.part
+
+field_exact : (n : ℕ) (s : Option ℕ) → Exact (λ e b. IsField padded (IsTableRef padded) e b × IsNext n s e) (field_at n s)
+unfolding field_at
+field_exact n s =
+    made_exact (λ z. Then (λ b. IsU32 z.0 b × (rises s z.0 ≡ true)) (IsRefIn n z.1)) (λ e b. IsField padded (IsTableRef padded) e b × IsNext n s e) field (λ e. (e.id, e.part)) _
+    (λ _. refl)
+    (λ x front h. (record { front = h.front; back = h.back; whole = h.whole; first = h.first.0; second = h.second.0 }, (h.first.1, h.second.1)))
+    (λ y front h. record { front = h.0.front; back = h.0.back; whole = h.0.whole; first = (h.0.first, h.1.0); second = (h.0.second, h.1.1) })
+    (both_exact (λ id b. IsU32 id b × (rises s id ≡ true)) (IsRefIn n) (id_at s) (ref_at n)
+    (kept_exact IsU32 (λ id b. IsU32 id b × (rises s id ≡ true)) BadTable (rises s) (u32_at BadTable) (u32_exact BadTable) (λ x front h t. (h, t)) (λ x front h. h))
+    (ref_exact n))
+
+linked_rising : (n : ℕ) (s : Option ℕ) (es : List (Entry TableRef)) → Linked (IsNext n) id_of s es → RisingIds es × Each (λ e. IsWithin n e.part) es
+linked_rising n s [] h = (tt, tt)
+linked_rising n s (e ∷ []) h = (tt, (h.0.1, tt))
+linked_rising n s (e ∷ f ∷ es) h =
+    let i = linked_rising n (Some e.id) (f ∷ es) h.1 in
+    ((ltb-true e.id f.id h.1.0.0, i.0), (h.0.1, i.1))
+
+rising_linked : (n : ℕ) (s : Option ℕ) (es : List (Entry TableRef)) → (e : Entry TableRef) → RisingIds (e ∷ es) → Each (λ e. IsWithin n e.part) es → Linked (IsNext n) id_of (Some e.id) es
+rising_linked n s [] e h w = tt
+rising_linked n s (f ∷ es) e h w = ((lt-ltb e.id f.id h.0, w.0), rising_linked n s es f h.1 w.1)
+
+rising_all : (n : ℕ) (es : List (Entry TableRef)) → RisingIds es → Each (λ e. IsWithin n e.part) es → Linked (IsNext n) id_of None es
+rising_all n [] h w = tt
+rising_all n (e ∷ es) h w = ((refl, w.0), rising_linked n None es e h w.1)
+
+pub fields_exact : (n : ℕ) → Exact (AreFields n) (list_at (field_at n) id_of)
+fields_exact n =
+    renamed (λ es b. IsList padded (IsField padded (IsTableRef padded)) es b × Linked (IsNext n) id_of None es) (AreFields n) (list_at (field_at n) id_of)
+    (λ x front h. let i = linked_rising n None x h.1 in (h.0, i.0, i.1))
+    (λ x front h. (h.0, rising_all n x h.1 h.2))
+    (list_exact (field_at n) id_of (IsField padded (IsTableRef padded)) (IsNext n) (field_exact n))
+
+-- Methods.
+abbrev pub AreMethods : ℕ → List (Method TableRef) → List ℕ → Type 0
+AreMethods n ms b = IsList padded (IsMethod padded (IsTableRef padded)) ms b × RisingNames ms × Each (λ m. IsWithin n m.part) ms
+
+abbrev IsNextName : ℕ → Option (List ℕ) → Method TableRef → Type 0
+IsNextName n s m = (name_rises s m.name ≡ true) × IsWithin n m.part
+
+method_exact : (n : ℕ) (s : Option (List ℕ)) → Exact (λ m b. IsMethod padded (IsTableRef padded) m b × IsNextName n s m) (method_at n s)
+unfolding method_at
+method_exact n s =
+    made_exact (λ z. Then (λ b. IsString padded z.0 b × (name_rises s z.0 ≡ true)) (IsRefIn n z.1)) (λ m b. IsMethod padded (IsTableRef padded) m b × IsNextName n s m) method (λ m. (m.name, m.part)) _
+    (λ _. refl)
+    (λ x front h. (record { front = h.front; back = h.back; whole = h.whole; first = h.first.0; second = h.second.0 }, (h.first.1, h.second.1)))
+    (λ y front h. record { front = h.0.front; back = h.0.back; whole = h.0.whole; first = (h.0.first, h.1.0); second = (h.0.second, h.1.1) })
+    (both_exact (λ m b. IsString padded m b × (name_rises s m ≡ true)) (IsRefIn n) (method_name_at s) (ref_at n)
+    (kept_exact (IsString padded) (λ m b. IsString padded m b × (name_rises s m ≡ true)) BadTable (name_rises s) (string_at BadTable) (string_exact BadTable) (λ x front h t. (h, t)) (λ x front h. h))
+    (ref_exact n))
+
+linked_names : (n : ℕ) (s : Option (List ℕ)) (ms : List (Method TableRef)) → Linked (IsNextName n) name_of s ms → RisingNames ms × Each (λ m. IsWithin n m.part) ms
+linked_names n s [] h = (tt, tt)
+linked_names n s (e ∷ []) h = (tt, (h.0.1, tt))
+linked_names n s (e ∷ f ∷ es) h =
+    let i = linked_names n (Some e.name) (f ∷ es) h.1 in
+    ((h.1.0.0, i.0), (h.0.1, i.1))
+
+names_linked : (n : ℕ) (ms : List (Method TableRef)) → (m : Method TableRef) → RisingNames (m ∷ ms) → Each (λ m. IsWithin n m.part) ms → Linked (IsNextName n) name_of (Some m.name) ms
+names_linked n [] m h w = tt
+names_linked n (f ∷ ms) m h w = ((h.0, w.0), names_linked n ms f h.1 w.1)
+
+names_all : (n : ℕ) (ms : List (Method TableRef)) → RisingNames ms → Each (λ m. IsWithin n m.part) ms → Linked (IsNextName n) name_of None ms
+names_all n [] h w = tt
+names_all n (m ∷ ms) h w = ((refl, w.0), names_linked n ms m h w.1)
+
+pub methods_exact : (n : ℕ) → Exact (AreMethods n) (list_at (method_at n) name_of)
+methods_exact n =
+    renamed (λ ms b. IsList padded (IsMethod padded (IsTableRef padded)) ms b × Linked (IsNextName n) name_of None ms) (AreMethods n) (list_at (method_at n) name_of)
+    (λ x front h. let i = linked_names n None x h.1 in (h.0, i.0, i.1))
+    (λ x front h. (h.0, names_all n x h.1 h.2))
+    (list_exact (method_at n) name_of (IsMethod padded (IsTableRef padded)) (IsNextName n) (method_exact n))

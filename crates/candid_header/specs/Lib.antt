@@ -1,0 +1,3 @@
+pub mod Reading
+pub mod Table
+pub mod Header
