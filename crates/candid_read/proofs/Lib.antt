@@ -1,0 +1,11 @@
+pub mod Texts
+pub mod Digits
+pub mod Low
+pub mod Amounts
+pub mod Shown
+pub mod Heads
+pub mod Waits
+pub mod Reach
+pub mod Trees
+pub mod Levels
+pub mod Few

@@ -1,0 +1,7 @@
+use Rattle.candid_read.proofs.Reach.{turns}
+use Rattle.candid_read.proofs.values.read_parts.Goals as goal
+
+pub loop-parts-preserved : goal.loop-parts-preserved
+loop-parts-preserved c =
+    let taken = rw c.in-Some.is at c.in_ok-next.ensures in
+    turns _ _ _ _ _ _ _ _ _ _ _ _ _ c.loop-parts.invariant taken c.in_ok-part-in-Some.ensures c.in_ok-put-in-Some.ensures.ok c.in_ok-push-in-Some.ensures.items
