@@ -4,8 +4,6 @@
 mod ask;
 mod pair;
 mod search;
-#[cfg(test)]
-mod tests;
 mod types;
 
 pub use pair::Pair;

@@ -8,8 +8,6 @@ mod list;
 mod number;
 mod reference;
 mod table;
-#[cfg(test)]
-mod tests;
 
 pub use fault::{Fault, Stop};
 pub use header::{Header, read_header};

@@ -1,4 +1,4 @@
--- The outermost part of a value is read exactly, whatever its type.
+-- The outermost part of a Candid value is read exactly, whatever its type.
 use Rattle.std.proofs.Common.{◌≡◌, ℕ, zero, suc, ◌≤◌, ◌<◌, Bool, true, false, List, [], ◌∷◌, ◌++◌, length, Ok, refl, sym, ap, ◌∙◌, arith, pos, negsuc}
 use Rattle.std.specs.Prelude.{nat_lt}
 use Rattle.std.proofs.lemmas.Bool.{lt-ltb, ltb-true}
@@ -15,8 +15,7 @@ use Rattle.candid_header.specs.declared.fault.Fault.TheVariants.{BadValue, TooMa
 use Rattle.candid_header.specs.Reading.{Reading, kept, first, u32_at}
 use Rattle.candid_header.proofs.Exact.{Front, Exact, okay, not_ok, same_pair, made_sound, made_complete, kept_exact}
 use Rattle.candid_header.proofs.Numbers.{IsU32, u32_exact}
-use Rattle.candid_types.specs.Shapes.{shape_at}
-use Rattle.candid_read.specs.Parts.{flag_by, option_by, principal_at, plain_at, is_marked, is_allowed, vector_at, tag_at, part_by, part_at}
+use Rattle.candid_read.specs.Parts.{flag_by, option_by, principal_at, plain_at, is_marked, is_allowed, vector_at, tag_at, part_by}
 use Rattle.candid_read.specs.Whole.{IsAllowed}
 use Rattle.candid_read.proofs.Amounts.{Sound, Plainly, empty_front, nat_sound, nat_complete, int_sound, int_complete, unsigned_sound, unsigned_complete, signed_sound, signed_complete, into8, into16, into32, into64, out8, out16, out32, out64}
 use Rattle.candid_read.proofs.Shown.{flag_sound, text_sound, text_complete, principal_exact, IsMethod, method_sound, method_complete}
@@ -161,6 +160,5 @@ module _ (marks : List Bool) where
   part_complete (Service ms) (part.Actor p) front rest h = made_complete (IsPrincipal padded) (λ p. part.Actor p) principal_at principal_exact p front rest h
   part_complete (Service ms) d front rest h = absurd h
 
-pub head_exact : (shapes : List (Wire ℕ)) (marks : List Bool) (t : ℕ) → Exact (IsWirePart padded (IsAllowed marks) (shape_at shapes t)) (part_at shapes marks t)
-unfolding part_at
-head_exact shapes marks t = record { sound = part_sound marks (shape_at shapes t); complete = part_complete marks (shape_at shapes t) }
+  pub shape_exact : (w : Wire ℕ) → Exact (Part w) (part_by marks w)
+  shape_exact w = record { sound = part_sound w; complete = part_complete w }

@@ -23,7 +23,7 @@ less t n h k = by (cases_lt t n)
     by (inl a) = a
     by (inr a) = absurd (k (omega (arith, a, h)))
 
-pushed : (xs : List Bool) (y : Bool) (t : ℕ) → ((t ≡ length xs) × (is_marked (xs ++ y ∷ []) t ≡ y)) ⊎ ((t ≢ length xs) × (is_marked (xs ++ y ∷ []) t ≡ is_marked xs t))
+pub pushed : (xs : List Bool) (y : Bool) (t : ℕ) → ((t ≡ length xs) × (is_marked (xs ++ y ∷ []) t ≡ y)) ⊎ ((t ≢ length xs) × (is_marked (xs ++ y ∷ []) t ≡ is_marked xs t))
 pushed [] y zero = inl (refl, refl)
 pushed [] y (suc t) = inr ((λ e. omega (arith, e)), refl)
 pushed (x ∷ xs) y zero = inr ((λ e. omega (arith, e)), refl)

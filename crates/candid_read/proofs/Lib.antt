@@ -8,4 +8,10 @@ pub mod Waits
 pub mod Reach
 pub mod Trees
 pub mod Levels
-pub mod Few
+pub mod Refs
+pub mod Endings
+pub mod Passing
+pub mod Arities
+pub mod Renamed
+pub mod Motoko
+pub mod Numbered

@@ -6,7 +6,8 @@ use Rattle.mo_types.specs.declared.wire.Entry.{Entry}
 use Rattle.mo_types.specs.declared.wire.Wire.{Wire}
 use Rattle.mo_types.specs.Values.{copies}
 use Rattle.candid_read.specs.declared.todo.Goal.{Goal}
-use Rattle.candid_read.specs.Whole.{parts_of, entry_type, goal_types, left}
+use Rattle.candid_types.specs.Inside.{parts_of}
+use Rattle.candid_read.specs.Whole.{entry_type, goal_types, left}
 
 pub put_one : (g : List (Wire ℕ)) (old : List Goal) (goal : Goal) → left g (reverse (old ++ goal ∷ [])) ≡ goal_types g goal ++ left g (reverse old)
 put_one g old goal = ap (left g) (reverse-append old (goal ∷ []))

@@ -1,9 +1,9 @@
 -- The types whose values have no bytes, found level by level.
-use Rattle.std.specs.Prelude.{◌≡◌, ℕ, zero, suc, Bool, true, false, List, [], ◌∷◌, ◌++◌}
+use Rattle.std.specs.Prelude.{◌≡◌, ℕ, ◌≤◌, zero, suc, Bool, true, false, List, [], ◌∷◌, ◌++◌}
 use Rattle.std.specs.List.{list_all}
 use Rattle.mo_types.specs.declared.wire.Plain.TheVariants as plain
 use Rattle.mo_types.specs.declared.wire.Wire.{Wire}
-use Rattle.mo_types.specs.declared.wire.Wire.TheVariants.{Simple, Record}
+use Rattle.mo_types.specs.declared.wire.Wire.TheVariants.{Simple, Vec, Record}
 use Rattle.mo_types.specs.Spelling.{EmptyBy}
 use Rattle.candid_types.specs.Shapes.{shape_at}
 use Rattle.candid_read.specs.Parts.{is_marked}
@@ -23,3 +23,12 @@ marks_after shapes marks (suc n) = marks_after shapes marks n ++ is_empty_head m
 pub record AreEmpty (shapes : List (Wire ℕ)) (marks : List Bool) : Type 0 where
   pub sound : (t : ℕ) → is_marked marks t ≡ true → (levels : ℕ) × EmptyBy (shape_at shapes) levels t
   pub complete : (t levels : ℕ) → EmptyBy (shape_at shapes) levels t → is_marked marks t ≡ true
+
+-- a type of the graph that is marked: its values stand everywhere
+abbrev pub IsPassed : List Bool → ℕ → Type 0
+IsPassed marks t = (18 ≤ t) × (is_marked marks t ≡ true)
+
+-- a vector of items of such a type
+abbrev pub HasPassedItems : List Bool → Wire ℕ → Type 0
+HasPassedItems marks (Vec t) = IsPassed marks t
+HasPassedItems marks _ = ⊥

@@ -1,3 +1,5 @@
 pub mod Parts
 pub mod Whole
 pub mod Empty
+pub mod Endless
+pub mod Values

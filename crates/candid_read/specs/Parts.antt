@@ -1,6 +1,7 @@
--- Reading the outermost parts of Candid values from left to right (Candid specification, section "Memory"), with the
--- first fault that is met.
+-- Reading the outermost parts of values from left to right (Candid specification, section "Memory"; Motoko language
+-- manual, section "Candid serialization"), with the first fault that is met.
 use Rattle.std.specs.Prelude.{ℕ, zero, suc, ◌+◌, ◌-◌, ◌*◌, ◌^◌, List, [], ◌∷◌, Bool, true, false, length, Option, Some, None, Result, Ok, Err, nat_lt, if◌then◌else◌, slice_get, ℤ, pos, negsuc, ◌-ℤ◌}
+use Rattle.std.specs.List.{list_all}
 use Rattle.std.specs.Str.{is_utf8}
 use Rattle.mo_types.specs.declared.datum.Datum.{Datum}
 use Rattle.mo_types.specs.declared.datum.Datum.TheVariants as part
@@ -8,11 +9,17 @@ use Rattle.mo_types.specs.declared.wire.Plain.{Plain}
 use Rattle.mo_types.specs.declared.wire.Plain.TheVariants as plain
 use Rattle.mo_types.specs.declared.wire.Wire.{Wire}
 use Rattle.mo_types.specs.declared.wire.Wire.TheVariants.{Simple, Opt, Vec, Record, Variant, Func, Service}
+use Rattle.mo_types.specs.declared.wire.Ref.{Ref}
+use Rattle.mo_types.specs.declared.wire.Ref.TheVariants.{Of, Just}
+use Rattle.mo_types.specs.declared.node.Node.{Node}
+use Rattle.mo_types.specs.declared.node.TypeId.{TypeId}
+use Rattle.mo_types.specs.Graph.{Slot, head_at}
+use Rattle.mo_types.specs.Heads.{is_char, is_blob, is_any}
 use Rattle.mo_types.specs.Values.{is_method_name}
 use Rattle.candid_header.specs.declared.fault.Fault.{Fault}
 use Rattle.candid_header.specs.declared.fault.Fault.TheVariants.{Short, BadValue, NumberLimit, TooManyEmpty}
 use Rattle.candid_header.specs.Reading.{◌>>=◌, Reading, made, both, kept, first, is_between, leb_at, sleb_at, u32_at, split_at, string_at}
-use Rattle.candid_types.specs.Shapes.{shape_at}
+use Rattle.candid_types.specs.Shapes.{shape_at, ref_of}
 
 -- ---- numbers
 
@@ -139,6 +146,37 @@ part_by marks (Variant es) bytes = tag_at (length es) bytes
 part_by marks (Func ps rs ns) bytes = method_at bytes
 part_by marks (Service ms) bytes = made (λ p. part.Actor p) principal_at bytes
 
--- the outermost part of a value of the type of a number
-unfoldable pub part_at : List (Wire ℕ) → List Bool → ℕ → Reading Datum
-part_at shapes marks t bytes = part_by marks (shape_at shapes t) bytes
+-- ---- Motoko types
+
+-- whether a number is a Unicode scalar value
+abbrev pub is_scalar : ℕ → Bool
+is_scalar c = if nat_lt c 55296 then true else (if nat_lt c 57344 then false else nat_lt c 1114112)
+
+-- a character: four bytes, and then the test of the number
+unfoldable pub char_at : Reading Datum
+char_at = made (λ c. part.Char c) (kept BadValue is_scalar (low_at 4))
+
+abbrev pub are_bytes : List ℕ → Bool
+are_bytes bytes = list_all (λ b. nat_lt b 256) bytes
+
+unfoldable pub blob_at : Reading Datum
+blob_at = made (λ b. part.Blob b) (kept BadValue are_bytes (string_at BadValue))
+
+-- nothing
+abbrev pub unit_at : Reading Datum
+unit_at bytes = Ok (part.Record 0, bytes)
+
+-- where Motoko values differ from their Candid values, by the type's head
+abbrev pub node_part : {A : Type 0} → Node A → Reading Datum → Reading Datum
+node_part n other bytes = if is_char n then char_at bytes else (if is_blob n then blob_at bytes else (if is_any n then unit_at bytes else other bytes))
+
+-- () under a tag stands at null; the other types without parts stand nowhere in a Motoko value
+abbrev pub ref_part : List Slot → Ref TypeId → Reading Datum → Reading Datum
+ref_part slots (Of t) other bytes = node_part (head_at slots t) other bytes
+ref_part slots (Just plain.Null) other bytes = unit_at bytes
+ref_part slots (Just p) other bytes = Err BadValue
+
+-- The outermost part of a Motoko value of the type of a number. A record that contains itself through records alone has
+-- no values.
+unfoldable pub part_at : List Slot → List (Wire ℕ) → List Bool → List Bool → ℕ → Reading Datum
+part_at slots shapes empty endless t bytes = if is_marked endless t then Err BadValue else ref_part slots (ref_of t) (part_by empty (shape_at shapes t)) bytes

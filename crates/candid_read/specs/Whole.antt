@@ -1,17 +1,17 @@
 -- Reading values of types, one part after the other, and what is spelled (Candid specification, section "Memory").
-use Rattle.std.specs.Prelude.{◌≡◌, ℕ, ◌≤◌, List, [], ◌∷◌, ◌++◌, Bool, true, Option, Some, None, Result, Ok, Err, slice_get, map, drop}
+use Rattle.std.specs.Prelude.{◌≡◌, ℕ, ◌≤◌, List, [], ◌∷◌, ◌++◌, Bool, true, Option, Some, None, Result, Ok, Err, drop}
 use Rattle.mo_types.specs.declared.datum.Datum.{Datum}
-use Rattle.mo_types.specs.declared.datum.Datum.TheVariants as part
 use Rattle.mo_types.specs.declared.wire.Entry.{Entry}
 use Rattle.mo_types.specs.declared.wire.Wire.{Wire}
 use Rattle.mo_types.specs.declared.wire.Wire.TheVariants.{Simple, Opt, Vec, Record, Variant, Func, Service}
 use Rattle.mo_types.specs.Values.{copies}
-use Rattle.mo_types.specs.Spelling.{one_part}
 use Rattle.candid_header.specs.declared.fault.Fault.{Fault}
 use Rattle.candid_header.specs.declared.fault.Stop.{Stop}
 use Rattle.candid_header.specs.declared.fault.Stop.TheVariants as stop
 use Rattle.candid_types.specs.Shapes.{shape_at}
-use Rattle.candid_read.specs.Parts.{is_marked, part_at}
+use Rattle.candid_header.specs.Reading.{Reading}
+use Rattle.candid_types.specs.Inside.{parts_of}
+use Rattle.candid_read.specs.Parts.{is_marked}
 use Rattle.candid_read.specs.declared.todo.Goal.{Goal}
 use Rattle.candid_read.specs.declared.todo.Goal.TheVariants as goal
 
@@ -19,53 +19,27 @@ use Rattle.candid_read.specs.declared.todo.Goal.TheVariants as goal
 abbrev pub IsAllowed : List Bool → ℕ → ℕ → Type 0
 IsAllowed marks n t = is_marked marks t ≡ true → n ≤ 10000
 
--- how many values are inside a part, or which tag it has
-abbrev pub times : Datum → ℕ
-times part.Null = 0
-times (part.Flag b) = 0
-times (part.Number n) = 0
-times (part.Char c) = 0
-times (part.Text t) = 0
-times (part.Blob t) = 0
-times (part.Principal p) = 0
-times (part.Actor p) = 0
-times (part.Method p m) = 0
-times part.Present = 1
-times (part.Many n) = n
-times (part.Record n) = n
-times (part.Tag i) = i
+-- Reading one part after the other, by a way to read a part of a type and the types of the values inside a part.
+module _ {B : Type 0} (part_of : B → Reading Datum) (inside : B → Datum → List B) where
+  -- Reading values of the types from these bytes gives these parts, and leaves the types todo and the bytes rest.
+  abbrev pub Reaches : List B → List Datum → List ℕ → List B → List ℕ → Type 0
+  Reaches types [] bytes todo rest = (types ≡ todo) × (bytes ≡ rest)
+  Reaches [] (p ∷ ps) bytes todo rest = ⊥
+  Reaches (t ∷ ts) (p ∷ ps) bytes todo rest = (after : List ℕ) × (part_of t bytes ≡ Ok (p, after)) × Reaches (inside t p ++ ts) ps after todo rest
 
-abbrev pub parts_of : List (Entry ℕ) → List ℕ
-parts_of es = map (λ e. e.part) es
+  -- The same, whatever the parts are.
+  pub record Passes (types : List B) (bytes : List ℕ) (todo : List B) (rest : List ℕ) : Type 0 where
+    pub parts : List Datum
+    pub reached : Reaches types parts bytes todo rest
 
-abbrev pub inside_by : Wire ℕ → ℕ → List ℕ
-inside_by (Simple p) n = []
-inside_by (Opt t) n = copies n t
-inside_by (Vec t) n = copies n t
-inside_by (Record es) n = parts_of es
-inside_by (Variant es) n = one_part (slice_get es n)
-inside_by (Func ps rs ns) n = []
-inside_by (Service ms) n = []
-
--- the types of the values inside a part of a type
-unfoldable pub below : List (Wire ℕ) → ℕ → Datum → List ℕ
-below shapes t p = inside_by (shape_at shapes t) (times p)
-
--- Reading values of the types from these bytes gives these parts, and leaves the types todo and the bytes rest.
-abbrev pub Reaches : List (Wire ℕ) → List Bool → List ℕ → List Datum → List ℕ → List ℕ → List ℕ → Type 0
-Reaches shapes marks types [] bytes todo rest = (types ≡ todo) × (bytes ≡ rest)
-Reaches shapes marks [] (p ∷ ps) bytes todo rest = ⊥
-Reaches shapes marks (t ∷ ts) (p ∷ ps) bytes todo rest =
-    (after : List ℕ) × (part_at shapes marks t bytes ≡ Ok (p, after)) × Reaches shapes marks (below shapes t p ++ ts) ps after todo rest
-
--- The first fault: after some parts that are read, the next one is not.
-pub record Stops (shapes : List (Wire ℕ)) (marks : List Bool) (types bytes : List ℕ) (f : Fault) : Type 0 where
-  pub parts : List Datum
-  pub next : ℕ
-  pub todo : List ℕ
-  pub rest : List ℕ
-  pub reached : Reaches shapes marks types parts bytes (next ∷ todo) rest
-  pub faulty : part_at shapes marks next rest ≡ Err f
+  -- The first fault: after some parts that are read, the next one is not.
+  pub record Stops (types : List B) (bytes : List ℕ) (f : Fault) : Type 0 where
+    pub parts : List Datum
+    pub next : B
+    pub todo : List B
+    pub rest : List ℕ
+    pub reached : Reaches types parts bytes (next ∷ todo) rest
+    pub faulty : part_of next rest ≡ Err f
 
 abbrev pub IfFault : {X : Type 0} → Result X Stop → (Fault → Type 0) → Type 0
 IfFault (Ok x) P = Unit {0}
@@ -83,6 +57,12 @@ abbrev pub Finds : {X : Type 0} → (X → List Datum × List ℕ) → Result X 
 Finds view (Ok x) ps rest = view x ≡ (ps, rest)
 Finds view (Err stop.Memory) ps rest = Unit {0}
 Finds view (Err (stop.Fault f)) ps rest = ⊥
+
+-- these bytes are left, or memory ran out
+abbrev pub Leaves : {X : Type 0} → (X → List ℕ) → Result X Stop → List ℕ → Type 0
+Leaves more (Ok x) rest = more x ≡ rest
+Leaves more (Err stop.Memory) rest = Unit {0}
+Leaves more (Err (stop.Fault f)) rest = ⊥
 
 -- ---- the types that wait
 

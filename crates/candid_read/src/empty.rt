@@ -6,8 +6,8 @@ ghost use Rattle.candid_read.specs.Parts.{is_marked as mark_of};
 ghost use Rattle.candid_read.specs.Empty.{is_empty_head, marks_after, AreEmpty};
 
 use crate::part::is_marked;
-use candid_header::Stop;
 use candid_types::Shapes;
+use mo_num::Memory;
 use mo_types::{Entry, Plain, Wire};
 use std::alloc::Global;
 
@@ -40,7 +40,7 @@ fn is_empty_at(shapes: &Shapes, marks: &[bool], of: usize) -> bool
 
 /// The marks of one level more.
 #[tactic(auto, using(crate::proofs::Levels::marks_more))]
-fn marks_after(alloc: Global, shapes: &Shapes, marks: &[bool]) -> Result<Vec<bool>, Stop>
+fn marks_after(alloc: Global, shapes: &Shapes, marks: &[bool]) -> Result<Vec<bool>, Memory>
     ensures { IfOk result (λ more. more.items ≡ marks_after shapes.now marks.now (length shapes.now)) }
 {
     let mut more = Vec::new(alloc);
@@ -59,7 +59,7 @@ fn are_equal(left: &[bool], right: &[bool]) -> bool
 /// Marks the types whose values have no bytes: `null`, `reserved`, and the records that are built up from such types
 /// alone. Takes time by the types, once for each level of such records.
 #[tactic(auto, using(crate::proofs::Levels::no_level, crate::proofs::Levels::one_level, crate::proofs::Levels::all_levels))]
-pub fn mark_empty(alloc: Global, shapes: &Shapes) -> Result<Vec<bool>, Stop>
+pub fn mark_empty(alloc: Global, shapes: &Shapes) -> Result<Vec<bool>, Memory>
     ensures { IfOk result (λ marks. AreEmpty shapes.now marks.items) }
 {
     let mut marks = Vec::new(alloc);
@@ -71,5 +71,5 @@ pub fn mark_empty(alloc: Global, shapes: &Shapes) -> Result<Vec<bool>, Stop>
         }
         marks = more;
     }
-    Err(Stop::Memory)
+    Err(Memory)
 }

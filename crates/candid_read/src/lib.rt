@@ -1,15 +1,19 @@
-//! Values of Candid messages (Candid specification, section "Memory"), read exactly.
+//! Motoko values in Candid messages (Candid specification, section "Memory"), read exactly.
 #![tactic(auto)]
 
 mod empty;
+mod endless;
 mod flag;
+mod known;
 mod number;
 mod part;
 mod reference;
-#[cfg(test)]
-mod tests;
+mod skip;
 mod todo;
 mod values;
 
-pub use empty::mark_empty;
-pub use values::read_values;
+pub use known::Known;
+pub use reference::{is_name, is_text};
+pub use skip::skip_known;
+pub use todo::{Goal, next, put, start};
+pub use values::{read_known, read_values};

@@ -1,7 +1,7 @@
 //! Numbers of values.
 ghost use Rattle.std.specs.Prelude.{◌≡◌, ◌<◌, ◌≤◌, ◌^◌, IfOk};
 ghost use Rattle.candid_header.specs.Reading.{Tells};
-ghost use Rattle.candid_read.specs.Parts.{u70_at, s70_at, nat_at, int_at, low_at, signed, signed_at, unsigned_at};
+ghost use Rattle.candid_read.specs.Parts.{u70_at, s70_at, nat_at, int_at, char_at, is_scalar, low_at, signed, signed_at, unsigned_at};
 
 use candid_header::Fault;
 use mo_num::{LebFault, leb_read, sleb_read};
@@ -111,4 +111,23 @@ pub fn read_signed(width: u32, bytes: &[u8]) -> Result<(Datum, &[u8]), Fault>
 {
     let (value, rest) = read_low(width, bytes)?;
     Ok((Datum::Number(with_sign(8 * width, value)), rest))
+}
+
+fn is_scalar(value: u64) -> bool
+    ensures { result ≡ is_scalar value }
+{
+    value < 0xd800 || 0xe000 <= value && value < 0x11_0000
+}
+
+/// A character, by its number in four bytes.
+#[tactic(auto, unfolding(crate::specs::Parts::char_at))]
+pub fn read_char(bytes: &[u8]) -> Result<(Datum, &[u8]), Fault>
+    ensures { Tells (λ x. (x.0, x.1.now)) result (char_at bytes.now) }
+{
+    let (value, rest) = read_low(4, bytes)?;
+    if is_scalar(value) {
+        Ok((Datum::Char(value as u32), rest))
+    } else {
+        Err(Fault::BadValue)
+    }
 }

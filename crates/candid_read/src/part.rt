@@ -1,14 +1,18 @@
 //! The outermost part of a value.
-ghost use Rattle.std.specs.Prelude.{◌≡◌};
-ghost use Rattle.candid_header.specs.Reading.{Tells, Gives};
-ghost use Rattle.candid_read.specs.Parts.{is_marked, plain_at, vector_at, tag_at, part_by, part_at};
+ghost use Rattle.std.specs.Prelude.{◌≡◌, ◌<◌, ◌≤◌, List};
+ghost use Rattle.mo_types.specs.declared.datum.Datum.{Datum};
+ghost use Rattle.mo_types.specs.Graph.{Slot};
+ghost use Rattle.candid_header.specs.Reading.{Reading, Tells, Gives};
+ghost use Rattle.candid_types.specs.Shapes.{ref_of, shape_at};
+ghost use Rattle.candid_read.specs.Parts.{is_marked, plain_at, vector_at, tag_at, part_by, node_part, ref_part, part_at};
 
 use crate::flag::{read_flag, read_option};
-use crate::number::{read_int, read_nat, read_signed, read_unsigned};
-use crate::reference::{read_method, read_principal, read_text};
+use crate::known::Known;
+use crate::number::{read_char, read_int, read_nat, read_signed, read_unsigned};
+use crate::reference::{read_blob, read_method, read_principal, read_text};
 use candid_header::{Fault, Stop, read_u32};
-use candid_types::Shapes;
-use mo_types::{Datum, Plain, Wire};
+use candid_types::{Shapes, plain};
+use mo_types::{Datum, Node, Plain, TypeGraph, Wire};
 use std::alloc::Global;
 
 fn read_plain(alloc: Global, plain: Plain, bytes: &[u8]) -> Result<(Datum, &[u8]), Stop>
@@ -100,19 +104,90 @@ fn read_by<'a>(
     }
 }
 
+fn read_shape<'a>(
+    alloc: Global,
+    shapes: &Shapes,
+    empty: &[bool],
+    of: usize,
+    bytes: &'a [u8],
+) -> Result<(Datum, &'a [u8]), Stop>
+    ensures { Gives (λ x. (x.0, x.1.now)) result (part_by empty.now (shape_at shapes.now of) bytes.now) }
+{
+    match shapes.get(of) {
+        Some(head) => read_by(alloc, empty, head, bytes),
+        None => Err(Stop::Fault(Fault::BadValue)),
+    }
+}
+
+/// What differs from Candid, by the node of the type.
+fn read_node<'a>(
+    alloc: Global,
+    node: &Node,
+    known: &Known,
+    of: usize,
+    bytes: &'a [u8],
+) -> Result<(Datum, &'a [u8]), Stop>
+    ensures { Gives (λ x. (x.0, x.1.now)) result (node_part node.now (part_by known.now.empty.items (shape_at known.now.shapes of)) bytes.now) }
+{
+    if node.is_char() {
+        Ok(read_char(bytes)?)
+    } else if node.is_blob() {
+        read_blob(alloc, bytes)
+    } else if node.is_any() {
+        Ok((Datum::Record(0), bytes))
+    } else {
+        read_shape(alloc, &known.shapes, known.empty.as_slice(), of, bytes)
+    }
+}
+
+/// A part of a type of the graph.
+#[tactic(auto, using(crate::proofs::Refs::node_of_number))]
+fn read_of<'a>(
+    alloc: Global,
+    types: &TypeGraph,
+    known: &Known,
+    of: usize,
+    bytes: &'a [u8],
+) -> Result<(Datum, &'a [u8]), Stop>
+    requires { 18 ≤ of }
+    ensures { Gives (λ x. (x.0, x.1.now)) result (ref_part types.now (ref_of of) (part_by known.now.empty.items (shape_at known.now.shapes of)) bytes.now) }
+{
+    match types.get_index(of - 18) {
+        Some(node) => read_node(alloc, node, known, of, bytes),
+        None => read_shape(alloc, &known.shapes, known.empty.as_slice(), of, bytes),
+    }
+}
+
+/// What stands at a type without parts: `()` under a tag.
+#[tactic(auto, using(crate::proofs::Refs::null_is_unit, crate::proofs::Refs::others_are_none))]
+fn read_unit(of: usize, bytes: &[u8]) -> Result<(Datum, &[u8]), Fault>
+    requires { of < 18 }
+    ensures { (slots : List Slot) (other : Reading Datum) → Tells (λ x. (x.0, x.1.now)) result (ref_part slots (ref_of of) other bytes.now) }
+{
+    if of == plain(Plain::Null) {
+        Ok((Datum::Record(0), bytes))
+    } else {
+        Err(Fault::BadValue)
+    }
+}
+
 /// The outermost part of a value of the type of a number, and what comes after it.
 #[tactic(auto, unfolding(crate::specs::Parts::part_at))]
 pub fn read_part<'a>(
     alloc: Global,
-    shapes: &Shapes,
-    marks: &[bool],
+    types: &TypeGraph,
+    known: &Known,
     of: usize,
     bytes: &'a [u8],
 ) -> Result<(Datum, &'a [u8]), Stop>
-    ensures { Gives (λ x. (x.0, x.1.now)) result (part_at shapes.now marks.now of bytes.now) }
+    ensures { Gives (λ x. (x.0, x.1.now)) result (part_at types.now known.now.shapes known.now.empty.items known.now.endless.items of bytes.now) }
 {
-    match shapes.get(of) {
-        Some(head) => read_by(alloc, marks, head, bytes),
-        None => Err(Stop::Fault(Fault::BadValue)),
+    if is_marked(known.endless.as_slice(), of) {
+        return Err(Stop::Fault(Fault::BadValue));
+    }
+    if of < 18 {
+        Ok(read_unit(of, bytes)?)
+    } else {
+        read_of(alloc, types, known, of, bytes)
     }
 }

@@ -1,10 +1,11 @@
-//! Texts, principals and methods.
-ghost use Rattle.std.specs.Prelude.{◌≡◌, ◌&&◌, nat_lt};
+//! Texts, Blobs, principals and methods.
+ghost use Rattle.std.specs.Prelude.{◌≡◌, ◌&&◌, IfOk, nat_lt, true};
 ghost use Rattle.std.specs.List.{list_all};
 ghost use Rattle.std.specs.Str.{is_utf8};
 ghost use Rattle.mo_types.specs.Values.{is_method_name};
 ghost use Rattle.candid_header.specs.Reading.{Tells, Gives};
-ghost use Rattle.candid_read.specs.Parts.{text_at, few_bytes_at, principal_at, method_name_at, method_at};
+ghost use Rattle.candid_read.specs.Whole.{IfFault};
+ghost use Rattle.candid_read.specs.Parts.{are_bytes, text_at, blob_at, few_bytes_at, principal_at, method_name_at, method_at};
 
 use crate::flag::read_one;
 use candid_header::{Fault, Stop, read_slice, read_u32, split};
@@ -12,8 +13,9 @@ use mo_num::{Bytes, Principal, principal_of};
 use mo_types::Datum;
 use std::alloc::Global;
 
+/// Whether the bytes are UTF-8.
 #[tactic(auto, using(crate::proofs::Texts::is_so, crate::proofs::Texts::is_not))]
-fn is_text(bytes: &[u8]) -> bool
+pub fn is_text(bytes: &[u8]) -> bool
     ensures { result ≡ is_utf8 bytes.now }
 {
     match str::from_utf8(bytes) {
@@ -33,6 +35,24 @@ pub fn read_text(alloc: Global, bytes: &[u8]) -> Result<(Datum, &[u8]), Stop>
     }
     let text = Bytes::from_slice(alloc, text)?;
     Ok((Datum::Text(text), rest))
+}
+
+fn copy(alloc: Global, bytes: &[u8]) -> Result<Bytes, Stop>
+    ensures made { IfOk result (λ made. made ≡ bytes.now) }
+    ensures quiet { IfFault result (λ _. ⊥) }
+    ensures bytes { are_bytes bytes.now ≡ true }
+{
+    Ok(Bytes::from_slice(alloc, bytes)?)
+}
+
+/// A Blob, in one string of bytes.
+#[tactic(auto, unfolding(crate::specs::Parts::blob_at))]
+pub fn read_blob(alloc: Global, bytes: &[u8]) -> Result<(Datum, &[u8]), Stop>
+    ensures { Gives (λ x. (x.0, x.1.now)) result (blob_at bytes.now) }
+{
+    let (blob, rest) = read_slice(Fault::BadValue, bytes)?;
+    let blob = copy(alloc, blob)?;
+    Ok((Datum::Blob(blob), rest))
 }
 
 #[tactic(auto, unfolding(crate::specs::Parts::few_bytes_at))]
@@ -72,7 +92,8 @@ fn are_printable(bytes: &[u8]) -> bool
     bytes.iter().all(|byte| 32 < *byte && *byte < 127)
 }
 
-fn is_name(bytes: &[u8]) -> bool
+/// Whether the bytes are the name of a method: there are some, and each is from 33 to 126.
+pub fn is_name(bytes: &[u8]) -> bool
     ensures { result ≡ is_method_name bytes.now }
 {
     !bytes.is_empty() && are_printable(bytes)

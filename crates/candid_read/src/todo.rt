@@ -1,8 +1,9 @@
 //! The types that wait for their values, the next one at the top.
 ghost use Rattle.std.specs.Prelude.{◌≡◌, ◌++◌, ◌+◌, ◌<◌, ◌^◌, reverse, OnOk, IfOk, IsSome, slice_get};
 ghost use Rattle.candid_types.specs.Shapes.{shape_at};
-ghost use Rattle.candid_read.specs.Whole.{times, below, inside_by, entries_of, entry_type, goal_types, all_types, left, IfFault, NextIs, Splits};
-ghost use Rattle.candid_read.specs.Whole.{times as times_of};
+ghost use Rattle.candid_types.specs.Inside.{times, below, inside_by};
+ghost use Rattle.candid_read.specs.Whole.{entries_of, entry_type, goal_types, all_types, left, IfFault, NextIs, Splits};
+ghost use Rattle.candid_types.specs.Inside.{times as times_of};
 
 use candid_header::Stop;
 use candid_types::Shapes;
@@ -132,7 +133,7 @@ fn goal_of(shapes: &Shapes, of: usize, count: u32) -> Option<Goal>
 }
 
 /// Puts the types of the values inside a part.
-#[tactic(auto, using(crate::proofs::Waits::put_one), unfolding(crate::specs::Whole::below))]
+#[tactic(auto, using(crate::proofs::Waits::put_one), unfolding(candid_types::specs::Inside::below))]
 pub fn put(shapes: &Shapes, of: usize, part: &Datum, goals: &mut Vec<Goal>) -> Result<(), Stop>
     ensures quiet { IfFault result (λ _. ⊥) }
     ensures ok { OnOk result (left shapes.now (reverse goals.new.items) ≡ below shapes.now of part.now ++ left shapes.now (reverse goals.old.items)) }

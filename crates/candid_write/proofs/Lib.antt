@@ -1,8 +1,10 @@
 pub mod Signatures
 pub mod PlaceLemmas
+pub mod Counting
 pub mod ClassLemmas
 pub mod VisitLemmas
 pub mod Adds
 pub mod Refs
 pub mod Along
 pub mod Whole
+pub mod Closing

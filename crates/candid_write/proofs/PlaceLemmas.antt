@@ -11,12 +11,12 @@ use Rattle.candid_types.specs.Shapes.{shape_at}
 use Rattle.candid_write.specs.Signature.{signature}
 use Rattle.candid_write.specs.Rounds.{lists, is_same, place, has, with_list, PutsAt, Refines}
 
-get_or-append_front : (xs ys : List ℕ) (i d : ℕ) → i < length xs → get_or (xs ++ ys) i d ≡ get_or xs i d
+pub get_or-append_front : (xs ys : List ℕ) (i d : ℕ) → i < length xs → get_or (xs ++ ys) i d ≡ get_or xs i d
 get_or-append_front [] ys i d h = absurd (omega arith)
 get_or-append_front (x ∷ xs) ys zero d h = refl
 get_or-append_front (x ∷ xs) ys (suc i) d h = get_or-append_front xs ys i d (omega arith)
 
-get_or_pushed : (xs : List ℕ) (y d : ℕ) → get_or (xs ++ y ∷ []) (length xs) d ≡ y
+pub get_or_pushed : (xs : List ℕ) (y d : ℕ) → get_or (xs ++ y ∷ []) (length xs) d ≡ y
 get_or_pushed [] y d = refl
 get_or_pushed (x ∷ xs) y d = get_or_pushed xs y d
 
@@ -74,7 +74,7 @@ place_has (t ∷ ts) s h = by (is_same s t) h (place_has ts s) where
   by true l k = omega arith
   by false l k = let m : place ts s < length ts = k l in omega arith
 
-place_new : (ts : List (List ℕ)) (s : List ℕ) → has ts s ≡ false → (place (ts ++ s ∷ []) s ≡ length ts) × (place ts s ≡ length ts)
+pub place_new : (ts : List (List ℕ)) (s : List ℕ) → has ts s ≡ false → (place (ts ++ s ∷ []) s ≡ length ts) × (place ts s ≡ length ts)
 place_new [] s h = (ap (λ b. cond b 0 1) (is_same_refl s), refl)
 place_new (t ∷ ts) s h = by (is_same s t) h (place_new ts s) where
   by : (b : Bool) → (b || has ts s) ≡ false → (has ts s ≡ false → (place (ts ++ s ∷ []) s ≡ length ts) × (place ts s ≡ length ts)) → (cond b 0 (suc (place (ts ++ s ∷ []) s)) ≡ suc (length ts)) × (cond b 0 (suc (place ts s)) ≡ suc (length ts))

@@ -8,7 +8,7 @@ use Rattle.mo_types.specs.declared.wire.Wire.TheVariants.{Simple, Opt, Vec, Reco
 use Rattle.mo_types.specs.Graph.{Slot, head_at}
 use Rattle.mo_types.specs.Wire.{map_wire, refs, wire}
 use Rattle.mo_types.specs.Spelling.{shortest}
-use Rattle.mo_types.specs.Header.{IsHeader, IsRef, Visits, IsCanonical}
+use Rattle.mo_types.specs.Header.{IsHeader, IsRef, IsCanonical}
 use Rattle.candid_types.specs.Shapes.{ref_of, shape_at, IsTableOf}
 use Rattle.candid_types.proofs.NumberLemmas.{ref_of_plain}
 use Rattle.candid_write.specs.declared.places.Table.{Table}
@@ -29,11 +29,18 @@ pub first_is : (slots : List Slot) (shapes : List (Wire ℕ)) → IsTableOf slot
 first_is slots [] t = let e : 0 ≡ 18 + length slots = t.count in absurd (omega arith)
 first_is slots (w ∷ ws) t = ap (λ v. Some v) (simple_back w plain.Empty (sym (t.heads 0) ∙ ap (wire (head_at slots)) (ref_of_plain plain.Empty)))
 
-pub canonical : (slots : List Slot) (shapes : List (Wire ℕ)) (t : Table) (ids : List TypeId) (args roots others old new : List ℕ) → IsTableOf slots shapes → map ref_of args ≡ refs ids → roots ≡ args → others ≡ args → Visited shapes roots t → old ≡ [] →
-    Appends (λ b. IsHeaderOf t others b) old new → IsCanonical (wire (head_at slots)) shortest (refs ids) new
-canonical slots shapes t ids args roots others old new is e f g v o a =
-    subst (λ b. IsCanonical (wire (head_at slots)) shortest (refs ids) b) (sym (a.whole ∙ ap (λ l. l ++ a.bytes) o))
-    (subst (λ rs. IsCanonical (wire (head_at slots)) shortest rs a.bytes) e
-    (canonical_along ref_of (shape_at shapes) (wire (head_at slots)) is.heads shortest args t.order.items a.bytes (subst (λ rs. Visits (shape_at shapes) [] rs t.order.items) f v.visits)
-    (subst (λ rs. IsHeader shortest (IsRef (shape_at shapes) shortest t.order.items) (map (shape_at shapes) t.order.items) rs a.bytes) g
-    (subst (λ l. IsHeader shortest (IsRef (shape_at l) shortest t.order.items) (map (shape_at l) t.order.items) others a.bytes) v.shapes a.fits))))
+-- the header of a table is that of the arguments by number
+pub by_number : (shapes : List (Wire ℕ)) (t : Table) (args old new : List ℕ) → Visited shapes args t → Appends (λ b. IsHeaderOf t args b) old new → Appends (λ b. IsCanonical (shape_at shapes) shortest args b) old new
+by_number shapes t args old new v a = record {
+  bytes = a.bytes;
+  whole = a.whole;
+  fits = record { order = t.order.items; visits = v.visits; header = subst (λ l. IsHeader shortest (IsRef (shape_at l) shortest t.order.items) (map (shape_at l) t.order.items) args a.bytes) v.shapes a.fits };
+}
+
+-- and that of the types of these numbers
+pub canonical : (slots : List Slot) (shapes : List (Wire ℕ)) (ids : List TypeId) (args b : List ℕ) → IsTableOf slots shapes → map ref_of args ≡ refs ids → IsCanonical (shape_at shapes) shortest args b → IsCanonical (wire (head_at slots)) shortest (refs ids) b
+canonical slots shapes ids args b is e c = subst (λ rs. IsCanonical (wire (head_at slots)) shortest rs b) e (canonical_along ref_of (shape_at shapes) (wire (head_at slots)) is.heads shortest args c.order b c.visits c.header)
+
+pub whole_header : (slots : List Slot) (shapes : List (Wire ℕ)) (ids : List TypeId) (args others old new : List ℕ) → IsTableOf slots shapes → map ref_of args ≡ refs ids → others ≡ args → old ≡ [] → Appends (λ b. IsCanonical (shape_at shapes) shortest others b) old new → IsCanonical (wire (head_at slots)) shortest (refs ids) new
+whole_header slots shapes ids args others old new is e f o a =
+    subst (λ b. IsCanonical (wire (head_at slots)) shortest (refs ids) b) (sym (a.whole ∙ ap (λ l. l ++ a.bytes) o)) (canonical slots shapes ids args a.bytes is e (subst (λ l. IsCanonical (shape_at shapes) shortest l a.bytes) f a.fits))

@@ -1,7 +1,8 @@
 -- The types of a header in the order of first visit.
 use Rattle.std.specs.Prelude.{◌≡◌, ℕ, ◌+◌, ◌⊎◌, List, [], ◌∷◌, length, map, reverse}
 use Rattle.mo_types.specs.declared.wire.Wire.{Wire}
-use Rattle.mo_types.specs.Header.{Visits}
+use Rattle.mo_types.specs.Sub.{Each}
+use Rattle.mo_types.specs.Header.{IsSimple, IsKnown, Visits, parts_of}
 use Rattle.candid_types.specs.Shapes.{shape_at}
 use Rattle.candid_write.specs.declared.places.Table.{Table}
 use Rattle.candid_write.specs.Classes.{class_at, AreClasses}
@@ -10,6 +11,19 @@ use Rattle.candid_write.specs.Classes.{class_at, AreClasses}
 pub record IsReady (t : Table) : Type 0 where
   pub classes : AreClasses t.shapes t.classes.items
   pub seen : t.seen.keys ≡ map (class_at t.classes.items) t.order.items
+
+-- a type that a header can name: one without parts, or one of its order
+abbrev pub IsPlaced : Table → ℕ → Type 0
+IsPlaced t n = IsSimple (shape_at t.shapes n) ⊎ IsKnown (shape_at t.shapes) t.order.items n
+
+-- a type with parts, which a header can name
+abbrev pub IsClosed : Table → Wire ℕ → Type 0
+IsClosed t w = (IsSimple w → ⊥) × Each (IsPlaced t) (parts_of w)
+
+-- the types of the order have parts, which the header can name
+pub record IsComplete (t : Table) : Type 0 where
+  pub ready : IsReady t
+  pub closed : Each (λ n. IsClosed t (shape_at t.shapes n)) t.order.items
 
 -- Visiting a number: what is left on the stack leads to an order that the number and the old stack lead to.
 pub record Steps (number : ℕ) (old new : Table) (todo left : List ℕ) : Type 0 where

@@ -28,6 +28,11 @@ pub record PutsAt (old : List (List ℕ)) (s : List ℕ) (at : ℕ) (new : List 
   pub place : at ≡ place old s
   pub lists : new ≡ with_list old s
 
+-- the classes are the numbers below a count, each of some type
+pub record Counts (classes : List ℕ) (count : ℕ) : Type 0 where
+  pub within : (i : ℕ) → i < length classes → slice_index classes i < count
+  pub onto : (j : ℕ) → j < count → (i : ℕ) × (i < length classes) × (slice_index classes i ≡ j)
+
 -- two numbers have one new class exactly where their heads are equal up to the old ones
 pub record Refines (shapes : List (Wire ℕ)) (old new : List ℕ) : Type 0 where
   pub count : length new ≡ length shapes

@@ -5,7 +5,7 @@ ghost use Rattle.mo_types.specs.declared.wire.Wire.TheVariants.{Simple};
 ghost use Rattle.candid_types.specs.Shapes.{shape_at};
 ghost use Rattle.candid_write.specs.Classes.{AreClasses};
 ghost use Rattle.candid_write.specs.Signature.{signature};
-ghost use Rattle.candid_write.specs.Rounds.{PutsAt, Refines, lists};
+ghost use Rattle.candid_write.specs.Rounds.{Counts, PutsAt, Refines, lists};
 
 use crate::signature::signature;
 use candid_types::Shapes;
@@ -32,16 +32,18 @@ fn place_of(
     Ok(place)
 }
 
-/// One round: the types whose heads are equal up to the old classes have one new class.
-fn refine(alloc: Global, shapes: &Shapes, classes: &[usize]) -> Result<Vec<usize>, Memory>
-    ensures { IfOk result (λ next. Refines shapes.now classes.now next.items) }
+/// One round: the types whose heads are equal up to the old classes have one new class. With how many classes there
+/// are now.
+fn refine(alloc: Global, shapes: &Shapes, classes: &[usize]) -> Result<(Vec<usize>, usize), Memory>
+    ensures classes { IfOk result (λ next. Refines shapes.now classes.now next.0.items) }
+    ensures count { IfOk result (λ next. Counts next.0.items next.1) }
 {
     let mut seen = IndexSet::new(alloc);
     let mut next = Vec::with_capacity(alloc, shapes.len())?;
     for number in 0..shapes.len() {
         next.push(place_of(alloc, shapes, classes, number, &mut seen)?)?;
     }
-    Ok(next)
+    Ok((next, seen.len()))
 }
 
 fn zeros(alloc: Global, count: usize) -> Result<Vec<usize>, Memory>
@@ -57,13 +59,14 @@ pub fn classes_of(alloc: Global, shapes: &Shapes) -> Result<Vec<usize>, Memory>
     ensures { IfOk result (λ classes. AreClasses shapes.now classes.items) }
 {
     let mut classes = zeros(alloc, shapes.len())?;
-    // Each round but the last makes a class more, and there are at most as many classes as types.
-    for round in 0..shapes.len() {
-        let next = refine(alloc, shapes, classes.as_slice())?;
-        if next.as_slice() == classes.as_slice() {
+    let mut count = 1;
+    // Each round but the last makes more classes, and there are at most as many as types.
+    loop {
+        let (next, more) = refine(alloc, shapes, classes.as_slice())?;
+        if more == count {
             return Ok(next);
         }
         classes = next;
+        count = more;
     }
-    Err(Memory)
 }

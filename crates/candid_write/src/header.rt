@@ -1,10 +1,11 @@
 //! Writes headers: Candid specification, section "Type definition table".
-ghost use Rattle.std.specs.Prelude.{◌≡◌, ◌<◌, ◌^◌, ◌∷◌, [], OnOk, IfSome, length, map, pos};
+ghost use Rattle.std.specs.Prelude.{◌≡◌, ◌<◌, ◌^◌, ◌∷◌, [], OnOk, length, map, pos};
 ghost use Rattle.candid_types.specs.Shapes.{shape_at};
-ghost use Rattle.mo_types.specs.Header.{IsAt, IsByte, IsEach, IsEntry, IsField, IsList, IsMethod, magic};
+ghost use Rattle.mo_types.specs.Sub.{Each};
+ghost use Rattle.mo_types.specs.Header.{IsAt, IsByte, IsKnown, IsEach, IsEntry, IsField, IsList, IsMethod, magic};
 ghost use Rattle.mo_types.specs.Spelling.{IsString, shortest};
 ghost use Rattle.candid_write.specs.Appends.{Appends, IsFunction, IsHeaderOf, IsRefIn, simple_of};
-ghost use Rattle.candid_write.specs.Order.{IsReady};
+ghost use Rattle.candid_write.specs.Order.{IsClosed, IsComplete, IsPlaced, IsReady};
 
 use crate::places::Table;
 use crate::signature::class_at;
@@ -13,7 +14,7 @@ use mo_num::{Bytes, Memory, leb_write, sleb_write};
 use mo_types::{Entry, Method, Plain, Wire};
 
 /// Writes a count. One of 2^32 or more has no place in a message.
-pub(crate) fn put_count(count: usize, out: &mut Bytes) -> Result<(), Memory>
+pub fn put_count(count: usize, out: &mut Bytes) -> Result<(), Memory>
     ensures { OnOk result (Appends (λ b. shortest.unsigned 32 b count) out.old out.new) }
 {
     if count > u32::MAX as usize {
@@ -23,7 +24,7 @@ pub(crate) fn put_count(count: usize, out: &mut Bytes) -> Result<(), Memory>
 }
 
 /// Writes a count of bytes, and the bytes.
-pub(crate) fn put_string(text: &[u8], out: &mut Bytes) -> Result<(), Memory>
+pub fn put_string(text: &[u8], out: &mut Bytes) -> Result<(), Memory>
     ensures { OnOk result (Appends (IsString shortest text.now) out.old out.new) }
 {
     put_count(text.len(), out)?;
@@ -59,30 +60,33 @@ fn plain_of(head: &Wire<usize>) -> Option<Plain>
 }
 
 /// The place of the type of the header that is equal to this one.
-fn place_of(table: &Table, number: usize) -> Option<usize>
-    requires { IsReady table.now }
-    ensures { IfSome result (λ i. IsAt (shape_at table.now.shapes) table.now.order.items number i) }
+fn place_of(table: &Table, number: usize) -> usize
+    requires ready { IsReady table.now }
+    requires known { IsKnown (shape_at table.now.shapes) table.now.order.items number }
+    ensures { IsAt (shape_at table.now.shapes) table.now.order.items number result }
 {
     let class = class_at(table.classes.as_slice(), number);
-    table.seen.get_index_of(&class)
+    match table.seen.get_index_of(&class) {
+        Some(place) => place,
+        None => unreachable!(),
+    }
 }
 
 /// Writes a type by its code, or by the place of the one of the header that is equal to it.
 fn put_ref(table: &Table, number: usize, out: &mut Bytes) -> Result<(), Memory>
-    requires { IsReady table.now }
+    requires ready { IsReady table.now }
+    requires placed { IsPlaced table.now number }
     ensures { OnOk result (Appends (IsRefIn table.now number) out.old out.new) }
 {
     match simple_of(&table.shapes, number) {
         Some(simple) => out.push(simple.code()),
-        None => match place_of(table, number) {
-            Some(place) => put_place(place, out),
-            None => Err(Memory),
-        },
+        None => put_place(place_of(table, number), out),
     }
 }
 
 fn put_each_ref(table: &Table, numbers: &[usize], out: &mut Bytes) -> Result<(), Memory>
-    requires { IsReady table.now }
+    requires ready { IsReady table.now }
+    requires placed { Each (IsPlaced table.now) numbers.now }
     ensures { OnOk result (Appends (IsEach (IsRefIn table.now) numbers.now) out.old out.new) }
 {
     for number in numbers {
@@ -93,7 +97,8 @@ fn put_each_ref(table: &Table, numbers: &[usize], out: &mut Bytes) -> Result<(),
 
 /// Writes types, with their count.
 fn put_refs(table: &Table, numbers: &[usize], out: &mut Bytes) -> Result<(), Memory>
-    requires { IsReady table.now }
+    requires ready { IsReady table.now }
+    requires placed { Each (IsPlaced table.now) numbers.now }
     ensures { OnOk result (Appends (IsList shortest (IsRefIn table.now) numbers.now) out.old out.new) }
 {
     put_count(numbers.len(), out)?;
@@ -101,7 +106,8 @@ fn put_refs(table: &Table, numbers: &[usize], out: &mut Bytes) -> Result<(), Mem
 }
 
 fn put_field(table: &Table, field: &Entry<usize>, out: &mut Bytes) -> Result<(), Memory>
-    requires { IsReady table.now }
+    requires ready { IsReady table.now }
+    requires placed { IsPlaced table.now field.now.part }
     ensures { OnOk result (Appends (IsField shortest (IsRefIn table.now) field.now) out.old out.new) }
 {
     put_count(field.id as usize, out)?;
@@ -109,7 +115,8 @@ fn put_field(table: &Table, field: &Entry<usize>, out: &mut Bytes) -> Result<(),
 }
 
 fn put_each_field(table: &Table, fields: &[Entry<usize>], out: &mut Bytes) -> Result<(), Memory>
-    requires { IsReady table.now }
+    requires ready { IsReady table.now }
+    requires placed { Each (λ e. IsPlaced table.now e.part) fields.now }
     ensures { OnOk result (Appends (IsEach (IsField shortest (IsRefIn table.now)) fields.now) out.old out.new) }
 {
     for field in fields {
@@ -119,7 +126,8 @@ fn put_each_field(table: &Table, fields: &[Entry<usize>], out: &mut Bytes) -> Re
 }
 
 fn put_fields(table: &Table, fields: &[Entry<usize>], out: &mut Bytes) -> Result<(), Memory>
-    requires { IsReady table.now }
+    requires ready { IsReady table.now }
+    requires placed { Each (λ e. IsPlaced table.now e.part) fields.now }
     ensures { OnOk result (Appends (IsList shortest (IsField shortest (IsRefIn table.now)) fields.now) out.old out.new) }
 {
     put_count(fields.len(), out)?;
@@ -127,7 +135,8 @@ fn put_fields(table: &Table, fields: &[Entry<usize>], out: &mut Bytes) -> Result
 }
 
 fn put_method(table: &Table, method: &Method<usize>, out: &mut Bytes) -> Result<(), Memory>
-    requires { IsReady table.now }
+    requires ready { IsReady table.now }
+    requires placed { IsPlaced table.now method.now.part }
     ensures { OnOk result (Appends (IsMethod shortest (IsRefIn table.now) method.now) out.old out.new) }
 {
     put_string(method.name.as_slice(), out)?;
@@ -135,7 +144,8 @@ fn put_method(table: &Table, method: &Method<usize>, out: &mut Bytes) -> Result<
 }
 
 fn put_each_method(table: &Table, methods: &[Method<usize>], out: &mut Bytes) -> Result<(), Memory>
-    requires { IsReady table.now }
+    requires ready { IsReady table.now }
+    requires placed { Each (λ m. IsPlaced table.now m.part) methods.now }
     ensures { OnOk result (Appends (IsEach (IsMethod shortest (IsRefIn table.now)) methods.now) out.old out.new) }
 {
     for method in methods {
@@ -145,7 +155,8 @@ fn put_each_method(table: &Table, methods: &[Method<usize>], out: &mut Bytes) ->
 }
 
 fn put_methods(table: &Table, methods: &[Method<usize>], out: &mut Bytes) -> Result<(), Memory>
-    requires { IsReady table.now }
+    requires ready { IsReady table.now }
+    requires placed { Each (λ m. IsPlaced table.now m.part) methods.now }
     ensures { OnOk result (Appends (IsList shortest (IsMethod shortest (IsRefIn table.now)) methods.now) out.old out.new) }
 {
     put_count(methods.len(), out)?;
@@ -166,7 +177,9 @@ fn put_function(
     annotations: &[u8],
     out: &mut Bytes,
 ) -> Result<(), Memory>
-    requires { IsReady table.now }
+    requires ready { IsReady table.now }
+    requires parameters { Each (IsPlaced table.now) parameters.now }
+    requires results { Each (IsPlaced table.now) results.now }
     ensures { OnOk result (Appends (IsFunction (IsRefIn table.now) parameters.now results.now annotations.now) out.old out.new) }
 {
     put_refs(table, parameters, out)?;
@@ -176,11 +189,12 @@ fn put_function(
 
 /// Writes an entry of the table.
 fn put_head(table: &Table, head: &Wire<usize>, out: &mut Bytes) -> Result<(), Memory>
-    requires { IsReady table.now }
+    requires ready { IsReady table.now }
+    requires closed { IsClosed table.now head.now }
     ensures { OnOk result (Appends (IsEntry shortest (IsRefIn table.now) head.now) out.old out.new) }
 {
     match head {
-        Wire::Simple(_) => Err(Memory),
+        Wire::Simple(_) => unreachable!(),
         Wire::Opt(part) => {
             out.push(0x6e)?;
             put_ref(table, *part, out)
@@ -215,17 +229,18 @@ fn put_head(table: &Table, head: &Wire<usize>, out: &mut Bytes) -> Result<(), Me
 }
 
 fn put_type(table: &Table, number: usize, out: &mut Bytes) -> Result<(), Memory>
-    requires { IsReady table.now }
+    requires ready { IsReady table.now }
+    requires closed { IsClosed table.now (shape_at table.now.shapes number) }
     ensures { OnOk result (Appends (IsEntry shortest (IsRefIn table.now) (shape_at table.now.shapes number)) out.old out.new) }
 {
     match table.shapes.get(number) {
         Some(head) => put_head(table, head, out),
-        None => Err(Memory),
+        None => unreachable!(),
     }
 }
 
 fn put_each_type(table: &Table, out: &mut Bytes) -> Result<(), Memory>
-    requires { IsReady table.now }
+    requires { IsComplete table.now }
     ensures { OnOk result (Appends (IsEach (IsEntry shortest (IsRefIn table.now)) (map (shape_at table.now.shapes) table.now.order.items)) out.old out.new) }
 {
     for number in &table.order {
@@ -235,7 +250,7 @@ fn put_each_type(table: &Table, out: &mut Bytes) -> Result<(), Memory>
 }
 
 fn put_types(table: &Table, out: &mut Bytes) -> Result<(), Memory>
-    requires { IsReady table.now }
+    requires { IsComplete table.now }
     ensures { OnOk result (Appends (IsList shortest (IsEntry shortest (IsRefIn table.now)) (map (shape_at table.now.shapes) table.now.order.items)) out.old out.new) }
 {
     put_count(table.order.len(), out)?;
@@ -244,7 +259,8 @@ fn put_types(table: &Table, out: &mut Bytes) -> Result<(), Memory>
 
 /// Writes the header of a table, with the arguments of these numbers.
 pub(crate) fn put_header(table: &Table, arguments: &[usize], out: &mut Bytes) -> Result<(), Memory>
-    requires { IsReady table.now }
+    requires complete { IsComplete table.now }
+    requires placed { Each (IsPlaced table.now) arguments.now }
     ensures { OnOk result (Appends (IsHeaderOf table.now arguments.now) out.old out.new) }
 {
     out.extend(b"DIDL")?;

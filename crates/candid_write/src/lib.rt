@@ -6,8 +6,7 @@ mod header;
 mod message;
 mod places;
 mod signature;
-#[cfg(test)]
-mod tests;
 
 pub use classes::classes_of;
-pub use message::type_table;
+pub use header::{put_count, put_string};
+pub use message::{put_type_table, type_table};

@@ -1,5 +1,9 @@
-use Rattle.candid_write.proofs.ClassLemmas.{AreTo}
+use Rattle.std.proofs.Common.{◌-◌, length}
+use Rattle.candid_write.proofs.ClassLemmas.{Rounds}
 use Rattle.candid_write.proofs.classes.classes_of.Given as goal
 
-abbrev pub invariant-loop-round : goal.invariant-loop-round
-invariant-loop-round l = AreTo l.shapes l.round l.classes.items
+abbrev pub invariant-loop-classes : goal.invariant-loop-classes
+invariant-loop-classes l = Rounds l.shapes l.classes.items l.count
+
+abbrev pub decreases-loop-classes : goal.decreases-loop-classes
+decreases-loop-classes l = length l.shapes - l.count

@@ -1,0 +1,5 @@
+pub mod Blobs
+pub mod Inner
+pub mod Whole
+pub mod ByNumber
+pub mod Few

@@ -1,0 +1,17 @@
+pub mod Counts
+pub mod Parts
+pub mod Once
+pub mod Same
+pub mod Padded
+pub mod Headers
+pub mod Spelling
+pub mod Unique
+pub mod Rising
+pub mod Visiting
+pub mod Table
+pub mod Back
+pub mod Types
+pub mod Examples
+pub mod Graphs
+pub mod Candid
+pub mod Along
