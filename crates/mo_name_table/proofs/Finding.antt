@@ -1,15 +1,11 @@
 -- Where names are found, as the list and the places change.
-use Rattle.std.proofs.Common.{◌≡◌, ℕ, zero, suc, ◌+◌, ◌<◌, ◌≤◌, Bool, true, false, List, [], ◌∷◌, ◌++◌, take, drop, length, ⊎_elim, get_or, Option, Some, None, nat_lt, cond, if◌then◌else◌, refl, sym, ap, ◌∙◌, subst, arith, Result, Ok, Err, OnOk, OnErr, length-append}
+use Rattle.std.proofs.Common.{◌≡◌, ℕ, suc, ◌+◌, ◌<◌, Bool, true, false, ◌||◌, List, [], ◌∷◌, ◌++◌, length, get_or, Option, Some, None, IsSome, IfSome, is_some, unwrap_or, cond, if◌then◌else◌, refl, sym, ap, ◌∙◌, subst, arith, length-append, append_assoc, append-nil, option_to_list, ◌↔◌}
 use Rattle.std.specs.List.{list_any}
 use Rattle.std.specs.Str.{bytes_eq}
-use Rattle.std.specs.Map.{lookup}
+use Rattle.std.specs.Map.{lookup, set_value}
 use Rattle.std.proofs.lemmas.Slice.Eq.{bytes_eq-Decides}
-use Rattle.std.proofs.lemmas.List.Folds.{list_any_at}
-use Rattle.std.proofs.lemmas.List.{take-append-drop}
-use Rattle.std.proofs.lemmas.Bool.{cases_lt}
-use Rattle.std.proofs.lemmas.Bool.Decides.{Decides-ltb}
 use Rattle.indexmap.specs.IndexMap.{insert_entry}
-use Rattle.mo_name_table.specs.Places.{Found}
+use Rattle.mo_name_table.specs.Places.{later, last_place, places_before, Kept}
 
 same : (x y : List ℕ) → bytes_eq x y ≡ true → x ≡ y
 same x y h = (bytes_eq-Decides x y).0 h
@@ -18,13 +14,15 @@ itself : (x y : List ℕ) → x ≡ y → bytes_eq x y ≡ true
 itself x y h = (bytes_eq-Decides x y).1 h
 
 -- tests that hold together are equal
-pub together : (a b : Bool) → (a ≡ true → b ≡ true) → (b ≡ true → a ≡ true) → a ≡ b
+together : (a b : Bool) → (a ≡ true → b ≡ true) → (b ≡ true → a ≡ true) → a ≡ b
 together true b f g = sym (f refl)
 together false true f g = g refl
 together false false f g = refl
 
-pub turned : (x y : List ℕ) → bytes_eq x y ≡ bytes_eq y x
+turned : (x y : List ℕ) → bytes_eq x y ≡ bytes_eq y x
 turned x y = together (bytes_eq x y) (bytes_eq y x) (λ h. itself y x (sym (same x y h))) (λ h. itself x y (sym (same y x h)))
+
+-- ---- the places of a map
 
 twice : {A : Type 0} (c : Bool) (a b l : A) → cond c a l ≡ cond c a (cond c b l)
 twice true a b l = refl
@@ -54,131 +52,150 @@ inserted {K} {V} f (e ∷ es) k v x = by (bytes_eq (f k) (f e.0)) refl (inserted
       ∙ swap (bytes_eq x (f e.0)) (bytes_eq (f k) x) (Some e.1) (Some v) L
       (λ c d. let g : bytes_eq (f k) (f e.0) ≡ true = itself (f k) (f e.0) (same (f k) x d ∙ same x (f e.0) c) in cc)
 
+absent : (r : Option (Option ℕ)) → is_some r ≡ false → None ≡ unwrap_or r None
+absent None h = refl
+absent (Some x) h = cc
+
+-- where a name is given no place, and had none
+pub room : {K : Type 0} (f : K → List ℕ) (es : List (K × Option ℕ)) (k : K) (name x : List ℕ) → f k ≡ name → is_some (lookup (λ a. bytes_eq name (f a)) es) ≡ false
+    → unwrap_or (lookup (λ a. bytes_eq x (f a)) (insert_entry (λ a b. bytes_eq (f a) (f b)) es k None)) None ≡ unwrap_or (lookup (λ a. bytes_eq x (f a)) es) None
+room {K} f es k name x e h = ap (λ z. unwrap_or z None) (inserted f es k None x ∙ ap (λ z. cond (bytes_eq z x) (Some None) (lookup (λ a. bytes_eq x (f a)) es)) e) ∙ by (bytes_eq name x) refl where
+  by : (b : Bool) → bytes_eq name x ≡ b → unwrap_or (cond b (Some None) (lookup (λ a. bytes_eq x (f a)) es)) None ≡ unwrap_or (lookup (λ a. bytes_eq x (f a)) es) None
+  by true q = absent (lookup (λ a. bytes_eq x (f a)) es) (ap (λ z. is_some (lookup (λ a. bytes_eq z (f a)) es)) (sym (same name x q)) ∙ h)
+  by false q = refl
+
+not_true : (b : Bool) → (b ≡ true → ⊥) → b ≡ false
+not_true true h = absurd (h refl)
+not_true false h = refl
+
+-- where a name that is there is given a place
+pub written : {K : Type 0} (f : K → List ℕ) (es : List (K × Option ℕ)) (name : List ℕ) (w : Option ℕ) (x : List ℕ) → IsSome (lookup (λ a. bytes_eq name (f a)) es)
+    → unwrap_or (lookup (λ a. bytes_eq x (f a)) (set_value (λ a. bytes_eq name (f a)) es w)) None ≡ cond (bytes_eq name x) w (unwrap_or (lookup (λ a. bytes_eq x (f a)) es) None)
+written f [] name w x h = cc
+written {K} f (e ∷ es) name w x h = by (bytes_eq name (f e.0)) refl h (written f es name w x) where
+  here : (c : Bool) → bytes_eq name (f e.0) ≡ true → bytes_eq x (f e.0) ≡ c
+      → unwrap_or (cond c (Some w) (lookup (λ a. bytes_eq x (f a)) es)) None ≡ cond (bytes_eq name x) w (unwrap_or (cond c (Some e.1) (lookup (λ a. bytes_eq x (f a)) es)) None)
+  here true p q = ap (λ b. cond b w e.1) (sym (itself name x (same name (f e.0) p ∙ sym (same x (f e.0) q))))
+  here false p q =
+      let apart : bytes_eq name x ≡ false = not_true (bytes_eq name x) (λ g. let t : bytes_eq x (f e.0) ≡ true = itself x (f e.0) (sym (same name x g) ∙ same name (f e.0) p) in cc) in
+      ap (λ b. cond b w (unwrap_or (lookup (λ a. bytes_eq x (f a)) es) None)) (sym apart)
+
+  behind : (c : Bool) → bytes_eq name (f e.0) ≡ false → bytes_eq x (f e.0) ≡ c
+      → unwrap_or (lookup (λ a. bytes_eq x (f a)) (set_value (λ a. bytes_eq name (f a)) es w)) None ≡ cond (bytes_eq name x) w (unwrap_or (lookup (λ a. bytes_eq x (f a)) es) None)
+      → unwrap_or (cond c (Some e.1) (lookup (λ a. bytes_eq x (f a)) (set_value (λ a. bytes_eq name (f a)) es w))) None ≡ cond (bytes_eq name x) w (unwrap_or (cond c (Some e.1) (lookup (λ a. bytes_eq x (f a)) es)) None)
+  behind true p q r =
+      let apart : bytes_eq name x ≡ false = not_true (bytes_eq name x) (λ g. let t : bytes_eq name (f e.0) ≡ true = itself name (f e.0) (same name x g ∙ same x (f e.0) q) in cc) in
+      ap (λ b. cond b w e.1) (sym apart)
+  behind false p q r = r
+
+  by : (b : Bool) → bytes_eq name (f e.0) ≡ b
+      → IsSome (cond b (Some e.1) (lookup (λ a. bytes_eq name (f a)) es))
+      → (IsSome (lookup (λ a. bytes_eq name (f a)) es)
+      → unwrap_or (lookup (λ a. bytes_eq x (f a)) (set_value (λ a. bytes_eq name (f a)) es w)) None ≡ cond (bytes_eq name x) w (unwrap_or (lookup (λ a. bytes_eq x (f a)) es) None))
+      → unwrap_or (lookup (λ a. bytes_eq x (f a)) (cond b ((e.0, w) ∷ es) (e ∷ set_value (λ a. bytes_eq name (f a)) es w))) None ≡ cond (bytes_eq name x) w (unwrap_or (cond (bytes_eq x (f e.0)) (Some e.1) (lookup (λ a. bytes_eq x (f a)) es)) None)
+  by true p h r = here (bytes_eq x (f e.0)) p refl
+  by false p h r = behind (bytes_eq x (f e.0)) p refl (r h)
+
 -- the same, where the key is of this name
-pub inserted_name : {K V : Type 0} (f : K → List ℕ) (es : List (K × V)) (k : K) (v : V) (name x : List ℕ) → f k ≡ name
-    → lookup (λ a. bytes_eq x (f a)) (insert_entry (λ a b. bytes_eq (f a) (f b)) es k v) ≡ cond (bytes_eq name x) (Some v) (lookup (λ a. bytes_eq x (f a)) es)
-inserted_name f es k v name x e = inserted f es k v x ∙ ap (λ z. cond (bytes_eq z x) (Some v) (lookup (λ a. bytes_eq x (f a)) es)) e
+pub written_name : {K : Type 0} (f : K → List ℕ) (es : List (K × Option ℕ)) (key name : List ℕ) (w : Option ℕ) (x : List ℕ) → key ≡ name → IsSome (lookup (λ a. bytes_eq name (f a)) es)
+    → unwrap_or (lookup (λ a. bytes_eq x (f a)) (set_value (λ a. bytes_eq key (f a)) es w)) None ≡ cond (bytes_eq name x) w (unwrap_or (lookup (λ a. bytes_eq x (f a)) es) None)
+written_name f es key name w x e h = rw e (written f es name w x h)
 
-defaults : (xs : List (List ℕ)) (i : ℕ) (d e : List ℕ) → i < length xs → get_or xs i d ≡ get_or xs i e
-defaults [] i d e l = absurd (omega arith)
-defaults (x ∷ xs) zero d e l = refl
-defaults (x ∷ xs) (suc i) d e l = defaults xs i d e (omega arith)
+-- ---- last places
 
-not_below : (p n : ℕ) → n ≤ p → nat_lt p n ≡ false
-not_below p n l = by (nat_lt p n) refl where
-  by : (b : Bool) → nat_lt p n ≡ b → nat_lt p n ≡ false
-  by false q = q
-  by true q = let m : p < n = (Decides-ltb p n).0 q in absurd (omega arith)
+later_next : (b h : Bool) (n : ℕ) (l : Option ℕ) → later (cond b (Some n) l) h ≡ cond b (Some (suc n)) (later l h)
+later_next true h n l = refl
+later_next false h n l = refl
 
--- where a name of the list stands
-pub stands : (x : List ℕ) (names : List (List ℕ)) → list_any (λ y. bytes_eq x y) names ≡ true → (i : ℕ) × (i < length names) × (get_or names i [] ≡ x)
-stands x [] h = cc
-stands x (y ∷ ys) h = by (bytes_eq x y) refl (λ g. stands x ys g) where
-  by : (b : Bool) → bytes_eq x y ≡ b → (list_any (λ y. bytes_eq x y) ys ≡ true → (i : ℕ) × (i < length ys) × (get_or ys i [] ≡ x))
-      → (i : ℕ) × (i < length (y ∷ ys)) × (get_or (y ∷ ys) i [] ≡ x)
-  by true q r = (0, omega arith, sym (same x y q))
-  by false q r = let g : list_any (λ y. bytes_eq x y) ys ≡ true = grind arith in let w = r g in let l : w.0 < length ys = w.1 in (suc w.0, omega arith, w.2)
+-- the last place once a name is added
+pub next : (names : List (List ℕ)) (y x : List ℕ) → last_place (names ++ y ∷ []) x ≡ cond (bytes_eq y x) (Some (length names)) (last_place names x)
+next [] y x = ap (λ b. cond b (Some 0) None) (turned x y)
+next (z ∷ zs) y x = ap (λ l. later l (bytes_eq x z)) (next zs y x) ∙ later_next (bytes_eq y x) (bytes_eq x z) (length zs) (last_place zs x)
 
-module _ (place : List ℕ → Option ℕ) (names : List (List ℕ)) (found : Found place names) (x : List ℕ) where
-  -- a name of the list, and the place that is kept for it
-  kept : list_any (λ y. bytes_eq x y) names ≡ true → (p : ℕ) × (p < length names) × (place x ≡ Some p) × (get_or names p [] ≡ x)
-  kept h =
-      let w = stands x names h in
-      let f = found w.0 w.1 in
-      let l : w.0 < length names = w.1 in
-      let m : f.0 ≤ w.0 = f.1 in
-      (f.0, omega arith, subst (λ z. place z ≡ Some f.0) w.2 f.2, f.3 ∙ w.2)
+pub within : (names : List (List ℕ)) (x : List ℕ) → IfSome (last_place names x) (λ place. place < length names)
+within [] x = tt
+within (y ∷ ys) x = by (last_place ys x) (bytes_eq x y) (within ys x) where
+  by : (l : Option ℕ) (b : Bool) → IfSome l (λ place. place < length ys) → IfSome (later l b) (λ place. place < length (y ∷ ys))
+  by (Some p) b h = omega arith
+  by None true h = omega arith
+  by None false h = tt
 
-  pub missed : place x ≡ None → false ≡ list_any (λ y. bytes_eq x y) names
-  missed e = together false (list_any (λ y. bytes_eq x y) names) (λ h. cc) (λ h. let w = kept h in let s : place x ≡ Some w.0 = w.2 in cc)
+later_any : (l : Option ℕ) (b c : Bool) → is_some l ≡ c → is_some (later l b) ≡ (b || c)
+later_any (Some p) true c h = refl
+later_any (Some p) false c h = h
+later_any None true c h = refl
+later_any None false c h = h
 
-  there : (p : ℕ) → place x ≡ Some p → p < length names → bytes_eq x (get_or names p []) ≡ list_any (λ y. bytes_eq x y) names
-  there p e l = together (bytes_eq x (get_or names p [])) (list_any (λ y. bytes_eq x y) names)
-      (λ h. list_any_at (λ y. bytes_eq x y) names p [] l h)
-      (λ h. let w = kept h in let s : place x ≡ Some w.0 = w.2 in let q : w.0 ≡ p = cc in itself x (get_or names p []) (sym (subst (λ z. get_or names z [] ≡ x) q w.3)))
+-- A name has a last place exactly where it stands in the list.
+pub among : (names : List (List ℕ)) (x : List ℕ) → is_some (last_place names x) ≡ list_any (λ y. bytes_eq x y) names
+among [] x = refl
+among (y ∷ ys) x = later_any (last_place ys x) (bytes_eq x y) (list_any (λ y. bytes_eq x y) ys) (among ys x)
 
-  pub hit : (p : ℕ) (z : List ℕ) → place x ≡ Some p → p < length names → z ≡ get_or names p z → bytes_eq x z ≡ list_any (λ y. bytes_eq x y) names
-  hit p z e l q = ap (λ y. bytes_eq x y) (q ∙ defaults names p z [] l) ∙ there p e l
+-- the hidden places once a name is added
+pub one_more : (front names : List (List ℕ)) (x : List ℕ) → places_before front (names ++ x ∷ []) ≡ places_before front names ++ last_place (front ++ names) x ∷ []
+one_more front [] x = ap (λ z. last_place z x ∷ []) (sym (append-nil front))
+one_more front (y ∷ ys) x =
+    ap (λ z. last_place front y ∷ z) (one_more (front ++ y ∷ []) ys x ∙ ap (λ z. places_before (front ++ y ∷ []) ys ++ last_place z x ∷ []) (append_assoc front (y ∷ []) ys))
 
-  pub past : (p : ℕ) → place x ≡ Some p → length names ≤ p → nat_lt p (length names) ≡ list_any (λ y. bytes_eq x y) names
-  past p e l = not_below p (length names) l ∙ together false (list_any (λ y. bytes_eq x y) names) (λ h. cc)
-      (λ h. let w = kept h in let s : place x ≡ Some w.0 = w.2 in let q : w.0 ≡ p = cc in let m : w.0 < length names = w.1 in absurd (omega arith))
+-- ---- what is kept
 
-get_front : (xs ys : List (List ℕ)) (i : ℕ) → i < length xs → get_or (xs ++ ys) i [] ≡ get_or xs i []
-get_front [] ys i l = absurd (omega arith)
-get_front (x ∷ xs) ys zero l = refl
-get_front (x ∷ xs) ys (suc i) l = get_front xs ys i (omega arith)
+-- a name is added
+pub pushed : (old new : List ℕ → Option ℕ) (hidden : List (Option ℕ)) (names : List (List ℕ)) (x : List ℕ) (before : Option ℕ) → Kept old hidden names → before ≡ old x
+    → ((y : List ℕ) → new y ≡ cond (bytes_eq x y) (Some (length names)) (old y)) → Kept new (hidden ++ before ∷ []) (names ++ x ∷ [])
+pushed old new hidden names x before kept e says = (
+  λ y. says y ∙ (ap (λ l. cond (bytes_eq x y) (Some (length names)) l) (kept.0 y) ∙ sym (next names x y)),
+  ap (λ h. h ++ before ∷ []) kept.1 ∙ (ap (λ b. places_before [] names ++ b ∷ []) (e ∙ kept.0 x) ∙ sym (one_more [] names x)),
+)
 
-get_next : (xs : List (List ℕ)) (x : List ℕ) → get_or (xs ++ x ∷ []) (length xs) [] ≡ x
-get_next [] x = refl
-get_next (y ∷ ys) x = get_next ys x
+cut : (b : Bool) (before k l : Option ℕ) → (b ≡ true → before ≡ l) → cond b before (cond b k l) ≡ l
+cut true before k l h = h refl
+cut false before k l h = refl
 
--- fewer names are found where they were
-pub front : (place : List ℕ → Option ℕ) (xs ys : List (List ℕ)) → Found place (xs ++ ys) → Found place xs
-front place xs ys found i l =
-    let n : length (xs ++ ys) ≡ length xs + length ys = length-append xs ys in
-    let f = found i (omega arith) in
-    let m : f.0 ≤ i = f.1 in
-    let q : f.0 < length xs = omega arith in
-    (f.0, f.1, subst (λ z. place z ≡ Some f.0) (get_front xs ys i l) f.2, sym (get_front xs ys f.0 q) ∙ (f.3 ∙ get_front xs ys i l))
-
--- one more name, which is found at a place where it stands
-next : (place : List ℕ → Option ℕ) (names : List (List ℕ)) (x : List ℕ) → Found place names
-    → (p : ℕ) → p ≤ length names → place x ≡ Some p → get_or (names ++ x ∷ []) p [] ≡ x → Found place (names ++ x ∷ [])
-next place names x found p m e g i l =
-    ⊎_elim
-    (λ q. let f = found i q in
-    let n : f.0 ≤ i = f.1 in
-    let r : f.0 < length names = omega arith in (
-      f.0,
-      f.1,
-      subst (λ z. place z ≡ Some f.0) (sym (get_front names (x ∷ []) i q)) f.2,
-      get_front names (x ∷ []) f.0 r ∙ (f.3 ∙ sym (get_front names (x ∷ []) i q)),
-    ))
-    (λ q. let n : length (names ++ x ∷ []) ≡ length names + 1 = length-append names (x ∷ []) in
-    let r : length names ≡ i = omega arith in
-    let here : get_or (names ++ x ∷ []) i [] ≡ x = subst (λ z. get_or (names ++ x ∷ []) z [] ≡ x) r (get_next names x) in
-    let o : p ≤ i = omega arith in
-    (p, o, subst (λ z. place z ≡ Some p) (sym here) e, g ∙ sym here))
-    (cases_lt i (length names))
-
-pub again : (place : List ℕ → Option ℕ) (names : List (List ℕ)) (x : List ℕ) → Found place names → list_any (λ y. bytes_eq x y) names ≡ true → Found place (names ++ x ∷ [])
-again place names x found h =
-    let w = kept place names found x h in
-    let l : w.0 < length names = w.1 in
-    let m : w.0 ≤ length names = omega arith in
-    next place names x found w.0 m w.2 (get_front names (x ∷ []) w.0 l ∙ w.3)
-
--- A name that is not there gets the next place.
-pub new_name : (old new : List ℕ → Option ℕ) (names : List (List ℕ)) (x : List ℕ) → Found old names → list_any (λ y. bytes_eq x y) names ≡ false
-    → ((y : List ℕ) → new y ≡ cond (bytes_eq x y) (Some (length names)) (old y)) → Found new (names ++ x ∷ [])
-new_name old new names x found absent says =
-    next new names x others (length names) (omega arith) (says x ∙ ap (λ b. cond b (Some (length names)) (old x)) (itself x x refl)) (get_next names x)
+-- the last name is taken away
+pub popped : (old new : List ℕ → Option ℕ) (hidden left : List (Option ℕ)) (names : List (List ℕ)) (x : List ℕ) (before : Option ℕ) → Kept old hidden (names ++ x ∷ [])
+    → hidden ≡ left ++ before ∷ [] → ((y : List ℕ) → new y ≡ cond (bytes_eq x y) before (old y)) → Kept new left names
+popped old new hidden left names x before kept e says =
+    let both = last_of left (places_before [] names) before (last_place names x) (sym e ∙ (kept.1 ∙ one_more [] names x)) in (
+      λ y. says y ∙ (ap (λ l. cond (bytes_eq x y) before l) (kept.0 y ∙ next names x y)
+          ∙ cut (bytes_eq x y) before (Some (length names)) (last_place names y) (λ q. both.1 ∙ ap (λ z. last_place names z) (same x y q))),
+      both.0,
+    )
   where
-    others : Found new names
-    others i l =
-        let f = found i l in
-        let y = get_or names i [] in
-        let apart : bytes_eq x y ≡ false = by (bytes_eq x y) refl in
-        (f.0, f.1, says y ∙ (ap (λ b. cond b (Some (length names)) (old y)) apart ∙ f.2), f.3)
-      where
-        by : (b : Bool) → bytes_eq x (get_or names i []) ≡ b → bytes_eq x (get_or names i []) ≡ false
-        by false q = q
-        by true q = let g : list_any (λ y. bytes_eq x y) names ≡ true = list_any_at (λ y. bytes_eq x y) names i [] l q in cc
+    last_of : (xs ys : List (Option ℕ)) (x y : Option ℕ) → xs ++ x ∷ [] ≡ ys ++ y ∷ [] → (xs ≡ ys) × (x ≡ y)
+    last_of [] [] x y h = let e : x ≡ y = cc in (refl, e)
+    last_of [] (z ∷ []) x y h = absurd (cc)
+    last_of [] (z ∷ w ∷ zs) x y h = absurd (cc)
+    last_of (z ∷ []) [] x y h = absurd (cc)
+    last_of (z ∷ w ∷ zs) [] x y h = absurd (cc)
+    last_of (v ∷ vs) (w ∷ ws) x y h =
+        let a : v ≡ w = cc in
+        let b : vs ++ x ∷ [] ≡ ws ++ y ∷ [] = cc in
+        let r = last_of vs ws x y b in
+        let c : v ∷ vs ≡ w ∷ ws = cc in
+        (c, r.1)
 
-pub unchanged : (old new : List ℕ → Option ℕ) (names : List (List ℕ)) → Found old names → ((y : List ℕ) → new y ≡ old y) → Found new names
-unchanged old new names found says i l = let f = found i l in (f.0, f.1, says (get_or names i []) ∙ f.2, f.3)
+-- What the last name hid is popped with it.
+pub hid : (old : List ℕ → Option ℕ) (hidden left : List (Option ℕ)) (names : List (List ℕ)) (x : List ℕ) (r : Option (Option ℕ)) (uncovered : Option ℕ) (n : ℕ) → Kept old hidden (names ++ x ∷ [])
+    → hidden ≡ left ++ option_to_list r → IsSome r ↔ (0 < n) → n ≡ length hidden → uncovered ≡ unwrap_or r None → hidden ≡ left ++ uncovered ∷ []
+hid old hidden left names x (Some l) uncovered n kept e v m u = e ∙ ap (λ z. left ++ z ∷ []) (sym u)
+hid old hidden left names x None uncovered n kept e v m u =
+    let more : length hidden ≡ length (places_before [] names) + 1 = ap (λ z. length z) (kept.1 ∙ one_more [] names x) ∙ length-append (places_before [] names) (last_place names x ∷ []) in
+    let some : 0 < n = omega arith in
+    let no : false ≡ true = v.1 some in
+    cc
 
-pub taken : (place : List ℕ → Option ℕ) (names : List (List ℕ)) (n : ℕ) → Found place names → Found place (take n names)
-taken place names n found = front place (take n names) (drop n names) (subst (Found place) (sym (take-append-drop n names)) found)
+pub at_end : (names longer : List (List ℕ)) (x z : List ℕ) (n : ℕ) → longer ≡ names ++ x ∷ [] → n ≡ length names → z ≡ get_or longer n z → z ≡ x
+at_end names longer x z n e m g = g ∙ (ap (λ l. get_or l n z) e ∙ (ap (λ k. get_or (names ++ x ∷ []) k z) m ∙ here names)) where
+  here : (ys : List (List ℕ)) → get_or (ys ++ x ∷ []) (length ys) z ≡ x
+  here [] = refl
+  here (y ∷ ys) = here ys
 
--- the same, where the call may fail
-module _ {A E : Type 0} (old new : List ℕ → Option ℕ) (names : List (List ℕ)) (x : List ℕ) (found : Found old names) where
-  pub on_ok : (r : Result A E) → list_any (λ y. bytes_eq x y) names ≡ false
-      → ((y : List ℕ) → OnOk r (new y ≡ cond (bytes_eq x y) (Some (length names)) (old y))) → OnOk r (Found new (names ++ x ∷ []))
-  on_ok (Ok a) absent says = new_name old new names x found absent says
-  on_ok (Err e) absent says = tt
+pub found : (place : Option ℕ) (names seen : List (List ℕ)) (x : List ℕ) → place ≡ last_place names x → names ≡ seen → IfSome place (λ p. p < length seen)
+found place names seen x e f = subst (λ (o : Option ℕ). IfSome o (λ p. p < length seen)) (sym e) (subst (λ (z : List (List ℕ)). IfSome (last_place names x) (λ p. p < length z)) f (within names x))
 
-  pub on_err : (r : Result A E) → ((y : List ℕ) → OnErr r (new y ≡ old y)) → OnErr r (Found new names)
-  on_err (Ok a) says = tt
-  on_err (Err e) says = unchanged old new names found says
+-- there is room for the place of a name that stands last
+pub roomy : (r : Option (Option ℕ)) (names front : List (List ℕ)) (x : List ℕ) → unwrap_or r None ≡ last_place names x → names ≡ front ++ x ∷ [] → IsSome r
+roomy (Some l) names front x h e = refl
+roomy None names front x h e =
+    let l : last_place names x ≡ Some (length front) = ap (λ z. last_place z x) e ∙ (next front x x ∙ ap (λ b. cond b (Some (length front)) (last_place front x)) (itself x x refl)) in
+    cc

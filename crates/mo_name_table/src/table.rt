@@ -1,9 +1,9 @@
 //! A list of names with an index.
-ghost use Rattle.std.specs.Prelude.{◌≡◌, ◌++◌, ◌∷◌, [], List, ℕ, ◌<◌, Bool, take, length, slice_index_or, IfSome, IfNone, IsTrue, IsFalse, OnOk, OnErr, Some, None, cond};
+ghost use Rattle.std.specs.Prelude.{◌≡◌, ◌++◌, ◌∷◌, ◌-◌, [], List, ℕ, ◌<◌, take, length, IfSome, IsSome, OnOk, OnErr, Some, None, cond};
 ghost use Rattle.std.specs.List.{list_any};
 ghost use Rattle.std.specs.Str.{bytes_eq};
 ghost use Rattle.indexmap.specs.IndexMap.{get_by};
-ghost use Rattle.mo_name_table.specs.Places.{Found};
+ghost use Rattle.mo_name_table.specs.Places.{last_place, place_at};
 
 use indexmap::IndexMap;
 use mo_num::Memory;
@@ -11,76 +11,85 @@ use mo_syntax::Name;
 use std::alloc::Global;
 use std::marker::Model;
 
-/// A list of names with their places, which contracts see as the list of their bytes. Whether it has a name is known in constant time.
+/// A list of names with their places, which contracts see as the list of their bytes. The last place of a name is known in constant time.
 #[derive(Drop)]
 pub struct NameTable {
     alloc: Global,
     names: Vec<Name>,
-    /// For each name of the list a place where it stands. A place past the end, or at which another name stands, says nothing.
-    places: IndexMap<Vec<u8>, usize>,
+    /// For each name of the list the last place before it at which the same name stands.
+    hidden: Vec<Option<usize>>,
+    /// For each name its last place in the list. A name that was taken away may have none.
+    places: IndexMap<Vec<u8>, Option<usize>>,
 }
 
 impl Model for NameTable {
     ghost use Rattle.std.specs.Prelude.{List, ℕ};
-    ghost use Rattle.std.specs.Str.{bytes_eq};
-    ghost use Rattle.indexmap.specs.IndexMap.{get_by};
-    ghost use Rattle.mo_name_table.specs.Places.{Found};
+    ghost use Rattle.mo_name_table.specs.Places.{Kept, place_at};
 
     ghost Value = { List (List ℕ) };
 
     ghost view = { λ t. t.names.items };
 
-    ghost invariant = { λ t. Found (λ x. get_by (λ k. bytes_eq x k.items) t.places) t.names.items };
+    ghost invariant = { λ t. Kept (place_at t.places) t.hidden.items t.names.items };
 }
 
 /// The place that is kept for a name.
-fn place_of(places: &IndexMap<Vec<u8>, usize>, name: &Name) -> Option<usize>
-    ensures { result ≡ get_by (λ k. bytes_eq name.now k.items) places.now }
+fn place_of(places: &IndexMap<Vec<u8>, Option<usize>>, name: &Name) -> Option<usize>
+    ensures { result ≡ place_at places.now name.now }
 {
-    places.get(name.as_slice()).copied()
+    match places.get(name.as_slice()) {
+        Some(place) => *place,
+        None => None,
+    }
 }
 
-/// Keeps a place for a name. After an error all places are as before.
-fn keep(
+/// Makes room for the place of a name. The places that are kept stay.
+fn make_room(
     alloc: Global,
-    places: &mut IndexMap<Vec<u8>, usize>,
+    places: &mut IndexMap<Vec<u8>, Option<usize>>,
     name: &Name,
-    place: usize,
 ) -> Result<(), Memory>
-    ensures ok { (x : List ℕ) → OnOk result (get_by (λ k. bytes_eq x k.items) places.new ≡ cond (bytes_eq name.now x) (Some place) (get_by (λ k. bytes_eq x k.items) places.old)) }
-    ensures err { (x : List ℕ) → OnErr result (get_by (λ k. bytes_eq x k.items) places.new ≡ get_by (λ k. bytes_eq x k.items) places.old) }
+    ensures stay { (x : List ℕ) → place_at places.new x ≡ place_at places.old x }
+    ensures room { OnOk result (IsSome (get_by (λ k. bytes_eq name.now k.items) places.new)) }
 {
+    if places.contains_key(name.as_slice()) {
+        return Ok(());
+    }
     let key = Vec::from_slice(alloc, name.as_slice())?;
-    places.insert(key, place)?;
+    places.insert(key, None)?;
     Ok(())
 }
 
-/// Whether the name is one of these, by the place that is kept for it.
-fn has(names: &[Name], places: &IndexMap<Vec<u8>, usize>, name: &Name) -> bool
-    requires { Found (λ x. get_by (λ k. bytes_eq x k.items) places.now) names.now }
-    ensures { result ≡ list_any (λ y. bytes_eq name.now y) names.now }
+/// Keeps a place for a name for which there is room.
+fn keep(places: &mut IndexMap<Vec<u8>, Option<usize>>, name: &Name, place: Option<usize>)
+    requires { IsSome (get_by (λ k. bytes_eq name.now k.items) places.old) }
+    ensures { (x : List ℕ) → place_at places.new x ≡ cond (bytes_eq name.now x) place (place_at places.old x) }
 {
-    match place_of(places, name) {
-        Some(place) => place < names.len() && name.same(&names[place]),
-        None => false,
+    if let Some(kept) = places.get_mut(name.as_slice()) {
+        *kept = place;
     }
 }
 
-/// Keeps a place for a name that is to follow these.
-fn note(
-    alloc: Global,
-    names: &[Name],
-    places: &mut IndexMap<Vec<u8>, usize>,
-    name: &Name,
+/// Adds a name and the place that it hides. After an error both lists are as before.
+fn push_both(
+    names: &mut Vec<Name>,
+    hidden: &mut Vec<Option<usize>>,
+    name: Name,
+    place: Option<usize>,
 ) -> Result<(), Memory>
-    requires { Found (λ x. get_by (λ k. bytes_eq x k.items) places.old) names.now }
-    ensures ok { OnOk result (Found (λ x. get_by (λ k. bytes_eq x k.items) places.new) (names.now ++ name.now ∷ [])) }
-    ensures err { OnErr result (Found (λ x. get_by (λ k. bytes_eq x k.items) places.new) names.now) }
+    ensures names { OnOk result (names.new.items ≡ names.old.items ++ name ∷ []) }
+    ensures hidden { OnOk result (hidden.new.items ≡ hidden.old.items ++ place ∷ []) }
+    ensures same_names { OnErr result (names.new.items ≡ names.old.items) }
+    ensures same_hidden { OnErr result (hidden.new.items ≡ hidden.old.items) }
 {
-    if has(names, places, name) {
-        return Ok(());
+    hidden.push(place)?;
+    match names.push(name) {
+        Ok(()) => Ok(()),
+        Err(_) => {
+            hidden.pop();
+            Err(Memory)
+        }
     }
-    keep(alloc, places, name, names.len())
 }
 
 impl NameTable {
@@ -91,6 +100,7 @@ impl NameTable {
         NameTable {
             alloc,
             names: Vec::new(alloc),
+            hidden: Vec::new(alloc),
             places: IndexMap::new(alloc),
         }
     }
@@ -109,11 +119,19 @@ impl NameTable {
         self.names.len()
     }
 
+    /// The last place at which the name stands, counted from 0.
+    pub fn find(&self, name: &Name) -> Option<usize>
+        ensures last { result ≡ last_place self.now name.now }
+        ensures within { IfSome result (λ place. place < length self.now) }
+    {
+        place_of(&self.places, name)
+    }
+
     /// Whether the name is one of these.
     pub fn contains(&self, name: &Name) -> bool
         ensures { result ≡ list_any (λ y. bytes_eq name.now y) self.now }
     {
-        has(self.names.as_slice(), &self.places, name)
+        self.find(name).is_some()
     }
 
     /// Adds a name at the end. After an error the names are as before.
@@ -121,15 +139,30 @@ impl NameTable {
         ensures ok { OnOk result (self.new ≡ self.old ++ name ∷ []) }
         ensures err { OnErr result (self.new ≡ self.old) }
     {
-        note(self.alloc, self.names.as_slice(), &mut self.places, &name)?;
-        self.names.push(name)?;
+        let place = self.names.len();
+        let covered = place_of(&self.places, &name);
+        make_room(self.alloc, &mut self.places, &name)?;
+        push_both(&mut self.names, &mut self.hidden, name, covered)?;
+        keep(&mut self.places, &self.names[place], Some(place));
         Ok(())
     }
 
-    /// Keeps only the first names.
+    /// Takes the last name away, if there is one. What it hid is found again.
+    fn pop(&mut self)
+        ensures { self.new ≡ take (length self.old - 1) self.old }
+    {
+        let uncovered = self.hidden.pop().unwrap_or(None);
+        if let Some(name) = self.names.pop() {
+            keep(&mut self.places, &name, uncovered);
+        }
+    }
+
+    /// Keeps only the first names. Costs the names that are taken away.
     pub fn truncate(&mut self, len: usize)
         ensures { self.new ≡ take len self.old }
     {
-        self.names.truncate(len);
+        while self.len() > len {
+            self.pop();
+        }
     }
 }

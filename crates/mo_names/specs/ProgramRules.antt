@@ -12,8 +12,6 @@ use Rattle.mo_syntax.specs.declared.program.Context.{Context}
 use Rattle.mo_syntax.specs.declared.program.Context.TheVariants as context
 use Rattle.mo_names.specs.declared.rule.Rule.{Rule}
 use Rattle.mo_names.specs.declared.scope.Scope.{Scope}
-use Rattle.mo_names.specs.declared.scope.Import.{Import}
-use Rattle.mo_names.specs.declared.library.Library.{Library}
 use Rattle.mo_names.specs.Rules.{Names, identifier, label, together, labels, known, contains}
 use Rattle.mo_names.specs.Scopes.{library_of, system_functions, with_values}
 use Rattle.mo_names.specs.TypeRules.{Test}
@@ -24,14 +22,6 @@ use Rattle.mo_names.specs.ExpressionRules.{annotation, function, expression, dec
 
 abbrev pub import_rule : Rule → written.Import → Bool
 import_rule r x = identifier r x.name && known r (is_some (library_of x.path))
-
-abbrev pub import_at : List ℕ → Option Library → List Import
-import_at x None = []
-import_at x (Some library) = record { name = x; library = library } ∷ []
-
--- what the imports of modules that are there give names to
-abbrev pub imports_of : List written.Import → List Import
-imports_of imports = flat_map (λ x. import_at x.name (library_of x.path)) imports
 
 -- ---- fields of the actor
 
@@ -96,7 +86,7 @@ name_of None = []
 name_of (Some x) = x ∷ []
 
 abbrev pub program_scope : Rule → List written.Import → Actor → Scope
-program_scope r imports actor = record { values = name_of actor.name ++ flat_map (field_values r) actor.fields; imports = imports_of imports; types = flat_map (field_types r) actor.fields; loops = [] }
+program_scope r imports actor = record { values = name_of actor.name ++ flat_map (field_values r) actor.fields; imports = map (λ x. x.name) imports; libraries = map (λ x. library_of x.path) imports; types = flat_map (field_types r) actor.fields; loops = [] }
 
 unfoldable pub actor_rule : Rule → List written.Import → Actor → Bool
 actor_rule r imports actor = actor_names r actor.fields && list_all (actor_field r (program_scope r imports actor)) actor.fields

@@ -1,18 +1,22 @@
 //! The names that patterns and declarations bind.
 ghost use Rattle.std.specs.Prelude.{◌≡◌, ◌++◌, ◌∷◌, [], OnOk, map};
-ghost use Rattle.mo_names.specs.PatternRules.{pattern_binder, pattern_field_binder, bound_names};
+ghost use Rattle.mo_names.specs.PatternRules.{pattern_binder, pattern_field_binder, parameters_binder, bound_names};
 ghost use Rattle.mo_names.specs.ExpressionRules.{declared, declared_member, values_of, types_of, member_values, member_types, public_names};
+ghost use Rattle.mo_names.specs.ProgramRules.{context_binder, prefix_binder};
 
 use crate::names::push_copy;
 use crate::scope::Names;
 use crate::walk::Walk;
 use mo_num::Memory;
-use mo_syntax::{Declaration, DeclarationField, Node, Pattern, PatternField, Visibility};
+use mo_syntax::{
+    Context, Declaration, DeclarationField, Node, Parameters, Pattern, PatternField, SharedPrefix,
+    Visibility,
+};
 
 impl Walk {
     #[cycle(binding)]
     #[tactic(auto, unfolding(crate::specs::PatternRules::pattern_binder, crate::specs::PatternRules::pattern_field_binder))]
-    fn pattern_names(self, p: &Pattern, names: &mut Names) -> Result<(), Memory>
+    pub(crate) fn pattern_names(self, p: &Pattern, names: &mut Names) -> Result<(), Memory>
         ensures { OnOk result (names.new ≡ names.old ++ (pattern_binder self.rule p.now).names) }
     {
         match p {
@@ -60,6 +64,44 @@ impl Walk {
         match &field.pattern {
             None => push_copy(self.alloc, names, &field.name),
             Some(p) => self.pattern_names(p.get(), names),
+        }
+    }
+
+    /// Adds the parameters of a function.
+    pub(crate) fn parameter_values(
+        self,
+        parameters: &Parameters,
+        names: &mut Names,
+    ) -> Result<(), Memory>
+        ensures { OnOk result (names.new ≡ names.old ++ (parameters_binder self.rule parameters.now).names) }
+    {
+        match parameters {
+            Parameters::List(patterns) => self.names_of_patterns(patterns.as_slice(), names),
+            Parameters::Single(name) => push_copy(self.alloc, names, name),
+        }
+    }
+
+    fn context_values(self, context: &Option<Context>, names: &mut Names) -> Result<(), Memory>
+        ensures { OnOk result (names.new ≡ names.old ++ (context_binder self.rule context.now).names) }
+    {
+        match context {
+            None => Ok(()),
+            Some(Context::Parenthesized(p)) => self.pattern_names(p.get(), names),
+            Some(Context::Object(fields, _)) => self.names_of_fields(fields.as_slice(), names),
+        }
+    }
+
+    /// Adds the names of the context of a call.
+    pub(crate) fn prefix_values(
+        self,
+        prefix: &Option<SharedPrefix>,
+        names: &mut Names,
+    ) -> Result<(), Memory>
+        ensures { OnOk result (names.new ≡ names.old ++ (prefix_binder self.rule prefix.now).names) }
+    {
+        match prefix {
+            None => Ok(()),
+            Some(prefix) => self.context_values(&prefix.context, names),
         }
     }
 

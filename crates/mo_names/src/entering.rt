@@ -90,7 +90,10 @@ impl Walk {
         together(self.alloc, self.rule, &names)
     }
 
-    fn parameter_names(self, parameters: &Option<Items<TypeParameter>>) -> Result<Names, Memory>
+    pub(crate) fn parameter_names(
+        self,
+        parameters: &Option<Items<TypeParameter>>,
+    ) -> Result<Names, Memory>
         ensures { IfOk result (λ made. made ≡ parameter_names parameters.now) }
     {
         match parameters {
@@ -198,6 +201,15 @@ impl Walk {
             push_copy(self.alloc, &mut copies, name)?;
         }
         Ok(copies)
+    }
+
+    pub(crate) fn alias_names(self, names: &Option<Items<Name>>) -> Result<Names, Memory>
+        ensures { IfOk result (λ made. made ≡ alias_names names.now) }
+    {
+        match names {
+            None => Ok(Names::new(self.alloc)),
+            Some(names) => self.copies(names.as_slice()),
+        }
     }
 
     /// Adds the parameters of a definition of a type.

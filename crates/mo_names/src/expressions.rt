@@ -84,16 +84,16 @@ impl Walk {
             }
             Expression::Break(name, None) => {
                 identifier(self.rule, name)?;
-                known(self.rule, name.place(), scope.loop_known(name))
+                known(self.rule, name.place(), scope.loop_meaning(name).is_some())
             }
             Expression::Break(name, Some(a)) => {
                 identifier(self.rule, name)?;
-                known(self.rule, name.place(), scope.loop_known(name))?;
+                known(self.rule, name.place(), scope.loop_meaning(name).is_some())?;
                 self.expression(a.get(), scope)
             }
             Expression::Continue(name) => {
                 identifier(self.rule, name)?;
-                known(self.rule, name.place(), scope.loop_known(name))
+                known(self.rule, name.place(), scope.loop_meaning(name).is_some())
             }
             Expression::Return(None) => Ok(()),
             Expression::Return(Some(a)) => self.expression(a.get(), scope),
@@ -144,7 +144,11 @@ impl Walk {
                     None => self.expression(a.get(), scope),
                     Some(object) => {
                         identifier(self.rule, object)?;
-                        known(self.rule, object.place(), scope.member_known(object, name))
+                        known(
+                            self.rule,
+                            object.place(),
+                            scope.member_meaning(object, name).is_some(),
+                        )
                     }
                 }
             }
@@ -162,7 +166,7 @@ impl Walk {
             Expression::Constant(_) => Ok(()),
             Expression::Variable(name) => {
                 identifier(self.rule, name)?;
-                known(self.rule, name.place(), scope.value_known(name))
+                known(self.rule, name.place(), scope.value_meaning(name).is_some())
             }
             Expression::Parenthesized(items) => self.expressions(items.as_slice(), scope),
             Expression::Array(_, items) => self.expressions(items.as_slice(), scope),
@@ -250,7 +254,7 @@ impl Walk {
             None => known(
                 self.rule,
                 field.name.place(),
-                scope.value_known(&field.name),
+                scope.value_meaning(&field.name).is_some(),
             ),
             Some(a) => self.expression(a.get(), scope),
         }

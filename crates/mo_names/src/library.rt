@@ -1,11 +1,11 @@
-//! The modules of the base library, and the names that need no declaration.
-ghost use Rattle.std.specs.Prelude.{◌≡◌, map, option_map};
+//! The modules of the base library with their members, and the names that need no declaration.
+ghost use Rattle.std.specs.Prelude.{◌≡◌, drop};
 ghost use Rattle.mo_names.specs.Rules.{contains};
-ghost use Rattle.mo_names.specs.Scopes.{built_in_types, library_of, members_of, system_functions};
+ghost use Rattle.mo_names.specs.Scopes.{built_in_types, library_of, members_of, named, system_functions};
 
 /// A module of the base library.
 #[derive(Clone, Copy, Debug, PartialEq, Eq, Drop)]
-pub(crate) enum Library {
+pub enum Library {
     Debug,
     Error,
     Nat,
@@ -14,29 +14,101 @@ pub(crate) enum Library {
     Principal,
 }
 
-/// Whether a type of this name needs no declaration.
-pub(crate) fn is_built_in_type(name: &[u8]) -> bool
-    ensures { result ≡ contains built_in_types name.now }
+/// A member of a module of the base library.
+#[derive(Clone, Copy, Debug, PartialEq, Eq)]
+pub enum Member {
+    DebugPrint,
+    DebugTrap,
+    ErrorReject,
+    ErrorMessage,
+    ErrorCode,
+    NatToText,
+    IntToText,
+    ArrayTabulate,
+    ArrayInit,
+    ArrayFreeze,
+    ArrayThaw,
+    PrincipalFromActor,
+}
+
+/// A type that needs no declaration.
+#[derive(Clone, Copy, Debug, PartialEq, Eq)]
+pub enum BuiltInType {
+    Nat,
+    Int,
+    Nat8,
+    Nat16,
+    Nat32,
+    Nat64,
+    Int8,
+    Int16,
+    Int32,
+    Int64,
+    Bool,
+    Char,
+    Text,
+    Blob,
+    Principal,
+    Null,
+    Any,
+    None,
+    Error,
+}
+
+/// The type of this name that needs no declaration.
+pub(crate) fn built_in_type(name: &[u8]) -> Option<BuiltInType>
+    ensures { result ≡ named built_in_types name.now }
 {
-    name == b"Nat".as_slice()
-        || name == b"Int".as_slice()
-        || name == b"Nat8".as_slice()
-        || name == b"Nat16".as_slice()
-        || name == b"Nat32".as_slice()
-        || name == b"Nat64".as_slice()
-        || name == b"Int8".as_slice()
-        || name == b"Int16".as_slice()
-        || name == b"Int32".as_slice()
-        || name == b"Int64".as_slice()
-        || name == b"Bool".as_slice()
-        || name == b"Char".as_slice()
-        || name == b"Text".as_slice()
-        || name == b"Blob".as_slice()
-        || name == b"Principal".as_slice()
-        || name == b"Null".as_slice()
-        || name == b"Any".as_slice()
-        || name == b"None".as_slice()
-        || name == b"Error".as_slice()
+    if name == b"Nat".as_slice() {
+        Some(BuiltInType::Nat)
+    } else if name == b"Int".as_slice() {
+        Some(BuiltInType::Int)
+    } else if name == b"Nat8".as_slice() {
+        Some(BuiltInType::Nat8)
+    } else if name == b"Nat16".as_slice() {
+        Some(BuiltInType::Nat16)
+    } else if name == b"Nat32".as_slice() {
+        Some(BuiltInType::Nat32)
+    } else if name == b"Nat64".as_slice() {
+        Some(BuiltInType::Nat64)
+    } else if name == b"Int8".as_slice() {
+        Some(BuiltInType::Int8)
+    } else if name == b"Int16".as_slice() {
+        Some(BuiltInType::Int16)
+    } else if name == b"Int32".as_slice() {
+        Some(BuiltInType::Int32)
+    } else if name == b"Int64".as_slice() {
+        Some(BuiltInType::Int64)
+    } else {
+        other_built_in_type(name)
+    }
+}
+
+// The types that are not of numbers, which stand behind these in the list of built-in types.
+fn other_built_in_type(name: &[u8]) -> Option<BuiltInType>
+    ensures { result ≡ named (drop 10 built_in_types) name.now }
+{
+    if name == b"Bool".as_slice() {
+        Some(BuiltInType::Bool)
+    } else if name == b"Char".as_slice() {
+        Some(BuiltInType::Char)
+    } else if name == b"Text".as_slice() {
+        Some(BuiltInType::Text)
+    } else if name == b"Blob".as_slice() {
+        Some(BuiltInType::Blob)
+    } else if name == b"Principal".as_slice() {
+        Some(BuiltInType::Principal)
+    } else if name == b"Null".as_slice() {
+        Some(BuiltInType::Null)
+    } else if name == b"Any".as_slice() {
+        Some(BuiltInType::Any)
+    } else if name == b"None".as_slice() {
+        Some(BuiltInType::None)
+    } else if name == b"Error".as_slice() {
+        Some(BuiltInType::Error)
+    } else {
+        None
+    }
 }
 
 /// The module at a path.
@@ -60,29 +132,70 @@ pub(crate) fn library_of(path: &[u8]) -> Option<Library>
     }
 }
 
-/// Whether the module has this member.
-pub(crate) fn has_member(library: Library, name: &[u8]) -> bool
-    ensures { result ≡ contains (members_of library) name.now }
+/// The member of a module by its name.
+pub(crate) fn member_of(library: Library, name: &[u8]) -> Option<Member>
+    ensures { result ≡ named (members_of library) name.now }
 {
     match library {
-        Library::Debug => name == b"print".as_slice() || name == b"trap".as_slice(),
-        Library::Error => name == b"reject".as_slice()
-            || name == b"message".as_slice()
-            || name == b"code".as_slice(),
-        Library::Nat => name == b"toText".as_slice(),
-        Library::Int => name == b"toText".as_slice(),
-        Library::Array => {
-            name == b"tabulate".as_slice()
-                || name == b"init".as_slice()
-                || name == b"freeze".as_slice()
-                || name == b"thaw".as_slice()
+        Library::Debug => {
+            if name == b"print".as_slice() {
+                Some(Member::DebugPrint)
+            } else if name == b"trap".as_slice() {
+                Some(Member::DebugTrap)
+            } else {
+                None
+            }
         }
-        Library::Principal => name == b"fromActor".as_slice(),
+        Library::Error => {
+            if name == b"reject".as_slice() {
+                Some(Member::ErrorReject)
+            } else if name == b"message".as_slice() {
+                Some(Member::ErrorMessage)
+            } else if name == b"code".as_slice() {
+                Some(Member::ErrorCode)
+            } else {
+                None
+            }
+        }
+        Library::Nat => {
+            if name == b"toText".as_slice() {
+                Some(Member::NatToText)
+            } else {
+                None
+            }
+        }
+        Library::Int => {
+            if name == b"toText".as_slice() {
+                Some(Member::IntToText)
+            } else {
+                None
+            }
+        }
+        Library::Array => {
+            if name == b"tabulate".as_slice() {
+                Some(Member::ArrayTabulate)
+            } else if name == b"init".as_slice() {
+                Some(Member::ArrayInit)
+            } else if name == b"freeze".as_slice() {
+                Some(Member::ArrayFreeze)
+            } else if name == b"thaw".as_slice() {
+                Some(Member::ArrayThaw)
+            } else {
+                None
+            }
+        }
+        Library::Principal => {
+            if name == b"fromActor".as_slice() {
+                Some(Member::PrincipalFromActor)
+            } else {
+                None
+            }
+        }
     }
 }
 
 /// Whether a system function may have this name.
-pub(crate) fn is_system_function(name: &[u8]) -> bool
+pub fn is_system_function(name: &[u8]) -> bool
     ensures { result ≡ contains system_functions name.now }
 {
     name == b"preupgrade".as_slice() || name == b"postupgrade".as_slice()

@@ -3,21 +3,22 @@ ghost use Rattle.std.specs.Prelude.{◌≡◌, ◌++◌, ◌∷◌, [], ◌&&◌
 ghost use Rattle.std.specs.List.{list_all, flat_map};
 ghost use Rattle.mo_names.specs.Judged.{Judged};
 ghost use Rattle.mo_names.specs.Rules.{identifier, together};
-ghost use Rattle.mo_names.specs.Scopes.{with_values};
+ghost use Rattle.mo_names.specs.Scopes.{library_of, with_values};
 ghost use Rattle.mo_names.specs.PatternRules.{whole};
 ghost use Rattle.mo_names.specs.ExpressionRules.{header, header_scope, body_scope};
-ghost use Rattle.mo_names.specs.ProgramRules.{import_rule, imports_of, context_binder, prefix_binder, shared_function, actor_field, field_values, field_types, field_methods, field_systems, field_stables, actor_names, name_of, program_scope, actor_rule, follows};
+ghost use Rattle.mo_names.specs.ProgramRules.{import_rule, context_binder, prefix_binder, shared_function, actor_field, field_values, field_types, field_methods, field_systems, field_stables, actor_names, name_of, program_scope, actor_rule, follows};
 
-use crate::library::{is_system_function, library_of};
+use crate::library::{Library, is_system_function, library_of};
 use crate::names::{identifier, known, label, labels, push_copy, together};
-use crate::scope::{Import, Names, Scope, table_of};
+use crate::scope::{Names, Scope, table_of};
 use crate::walk::Walk;
 use crate::wrong::Wrong;
+use mo_name_table::NameTable;
 use mo_num::{Memory, Sequence};
-use mo_syntax::{Actor, ActorField, Context, Name, Node, SharedFunction, SharedPrefix, Tree};
+use mo_syntax::{Actor, ActorField, Context, Import, Node, SharedFunction, SharedPrefix, Tree};
 
 impl Walk {
-    fn import(self, import: &mo_syntax::Import) -> Result<(), Wrong>
+    fn import(self, import: &Import) -> Result<(), Wrong>
         ensures { Judged result (import_rule self.rule import.now) }
     {
         identifier(self.rule, &import.name)?;
@@ -25,7 +26,7 @@ impl Walk {
         known(self.rule, import.path.place(), library.is_some())
     }
 
-    fn each_import(self, imports: &[Node<mo_syntax::Import>]) -> Result<(), Wrong>
+    fn each_import(self, imports: &[Node<Import>]) -> Result<(), Wrong>
         ensures { Judged result (list_all (import_rule self.rule) imports.now) }
     {
         for one in imports {
@@ -34,18 +35,26 @@ impl Walk {
         Ok(())
     }
 
-    fn imports_of(self, imports: &[Node<mo_syntax::Import>]) -> Result<Sequence<Import>, Memory>
-        ensures { IfOk result (λ made. made ≡ imports_of imports.now) }
+    /// The names of the imports.
+    fn import_names(self, imports: &[Node<Import>]) -> Result<Names, Memory>
+        ensures { IfOk result (λ made. made ≡ map (λ x. x.name) imports.now) }
     {
-        let mut found = Sequence::new(self.alloc);
+        let mut names = Names::new(self.alloc);
         for one in imports {
-            let import = one.get();
-            if let Some(library) = library_of(import.path.get().as_slice()) {
-                let name = Name::new(self.alloc, import.name.place(), import.name.as_slice())?;
-                found.push(Import { name, library })?;
-            }
+            push_copy(self.alloc, &mut names, &one.get().name)?;
         }
-        Ok(found)
+        Ok(names)
+    }
+
+    /// What the imports bring in.
+    fn libraries_of(self, imports: &[Node<Import>]) -> Result<Sequence<Option<Library>>, Memory>
+        ensures { IfOk result (λ made. made ≡ map (λ x. library_of x.path) imports.now) }
+    {
+        let mut libraries = Sequence::new(self.alloc);
+        for one in imports {
+            libraries.push(library_of(one.get().path.get().as_slice()))?;
+        }
+        Ok(libraries)
     }
 
     fn context(
@@ -258,39 +267,55 @@ impl Walk {
         }
     }
 
-    fn program_names(self, imports: &[Node<mo_syntax::Import>], actor: &Actor) -> Result<(), Wrong>
+    fn program_names(self, imports: &[Node<Import>], actor: &Actor) -> Result<(), Wrong>
         ensures { Judged result (together self.rule (map (λ x. x.name) imports.now ++ name_of actor.now.name)) }
     {
-        let mut names = Names::new(self.alloc);
-        for one in imports {
-            push_copy(self.alloc, &mut names, &one.get().name)?;
-        }
+        let mut names = self.import_names(imports)?;
         let name = self.actor_name(actor)?;
         names.append(name)?;
         together(self.alloc, self.rule, &names)
     }
 
-    fn program_scope(
-        self,
-        imports: &[Node<mo_syntax::Import>],
-        actor: &Actor,
-    ) -> Result<Scope, Memory>
-        ensures { IfOk result (λ made. made ≡ program_scope self.rule imports.now actor.now) }
+    fn value_table(self, actor: &Actor) -> Result<NameTable, Memory>
+        ensures { IfOk result (λ made. made ≡ name_of actor.now.name ++ flat_map (field_values self.rule) actor.now.fields) }
     {
         let mut values = self.actor_name(actor)?;
         let fields = self.all_values(actor.fields.as_slice())?;
         values.append(fields)?;
-        let imports = self.imports_of(imports)?;
-        let types = self.all_types(actor.fields.as_slice())?;
+        table_of(self.alloc, values)
+    }
+
+    fn type_table(self, fields: &[Node<ActorField>]) -> Result<NameTable, Memory>
+        ensures { IfOk result (λ made. made ≡ flat_map (field_types self.rule) fields.now) }
+    {
+        let types = self.all_types(fields)?;
+        table_of(self.alloc, types)
+    }
+
+    fn import_table(self, imports: &[Node<Import>]) -> Result<NameTable, Memory>
+        ensures { IfOk result (λ made. made ≡ map (λ x. x.name) imports.now) }
+    {
+        let names = self.import_names(imports)?;
+        table_of(self.alloc, names)
+    }
+
+    pub(crate) fn program_scope(
+        self,
+        imports: &[Node<Import>],
+        actor: &Actor,
+    ) -> Result<Scope, Memory>
+        ensures { IfOk result (λ made. made ≡ program_scope self.rule imports.now actor.now) }
+    {
         Ok(Scope {
-            values: table_of(self.alloc, values)?,
-            imports,
-            types: table_of(self.alloc, types)?,
-            loops: Names::new(self.alloc),
+            values: self.value_table(actor)?,
+            imports: self.import_table(imports)?,
+            libraries: self.libraries_of(imports)?,
+            types: self.type_table(actor.fields.as_slice())?,
+            loops: NameTable::new(self.alloc),
         })
     }
 
-    fn actor_fields(self, imports: &[Node<mo_syntax::Import>], actor: &Actor) -> Result<(), Wrong>
+    fn actor_fields(self, imports: &[Node<Import>], actor: &Actor) -> Result<(), Wrong>
         ensures { Judged result (list_all (actor_field self.rule (program_scope self.rule imports.now actor.now)) actor.now.fields) }
     {
         let mut scope = self.program_scope(imports, actor)?;
@@ -298,7 +323,7 @@ impl Walk {
     }
 
     #[tactic(auto, unfolding(crate::specs::ProgramRules::actor_rule))]
-    fn actor(self, imports: &[Node<mo_syntax::Import>], actor: &Actor) -> Result<(), Wrong>
+    fn actor(self, imports: &[Node<Import>], actor: &Actor) -> Result<(), Wrong>
         ensures { Judged result (actor_rule self.rule imports.now actor.now) }
     {
         self.actor_names(actor.fields.as_slice())?;

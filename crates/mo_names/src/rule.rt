@@ -2,7 +2,7 @@
 
 /// A rule that each part of a program has to meet.
 #[derive(Clone, Copy, Debug, PartialEq, Eq)]
-pub(crate) enum Rule {
+pub enum Rule {
     /// Each name that is used has a meaning.
     Unknown,
     /// No name is bound twice in one list, pattern or type.

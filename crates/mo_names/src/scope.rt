@@ -1,11 +1,9 @@
 //! What names mean at a place.
-ghost use Rattle.std.specs.Prelude.{◌≡◌, ◌++◌, ◌∷◌, [], ◌||◌, take, OnOk, IfOk, List, ℕ, length};
-ghost use Rattle.std.specs.List.{list_any};
-ghost use Rattle.std.specs.Str.{bytes_eq};
-ghost use Rattle.mo_names.specs.Rules.{contains};
-ghost use Rattle.mo_names.specs.Scopes.{imported, value_known, type_known, loop_known, member_known, with_values, with_types, with_loop, without_loops};
+ghost use Rattle.std.specs.Prelude.{◌≡◌, ◌++◌, ◌∷◌, [], take, OnOk, IfOk, List, ℕ, length};
+ghost use Rattle.mo_names.specs.Scopes.{value_meaning, type_meaning, loop_meaning, member_meaning, module_of, with_values, with_types, with_loop, without_loops};
 
-use crate::library::{Library, has_member, is_built_in_type};
+use crate::library::{Library, built_in_type, member_of};
+use crate::meaning::Meaning;
 use mo_name_table::NameTable;
 use mo_num::{Memory, Sequence};
 use mo_syntax::Name;
@@ -72,20 +70,15 @@ impl Names {
     }
 }
 
-/// A module that was imported, and its name here.
-#[derive(Drop)]
-pub(crate) struct Import {
-    pub name: Name,
-    pub library: Library,
-}
-
 /// What has a meaning at a place: values, modules, types and labels of loops.
 #[derive(Drop)]
-pub(crate) struct Scope {
-    pub values: NameTable,
-    pub imports: Sequence<Import>,
-    pub types: NameTable,
-    pub loops: Names,
+pub struct Scope {
+    pub(crate) values: NameTable,
+    pub(crate) imports: NameTable,
+    /// What each import brings in, where its path names a module.
+    pub(crate) libraries: Sequence<Option<Library>>,
+    pub(crate) types: NameTable,
+    pub(crate) loops: NameTable,
 }
 
 /// Adds names at the end of a table.
@@ -107,53 +100,53 @@ pub(crate) fn table_of(alloc: Global, names: Names) -> Result<NameTable, Memory>
     Ok(table)
 }
 
-/// Whether the name is one of these.
-pub(crate) fn contains(names: &[Name], name: &Name) -> bool
-    ensures { result ≡ contains names.now name.now }
-{
-    for one in names {
-        if name.same(one) {
-            return true;
-        }
-    }
-    false
-}
-
-fn is_imported(imports: &[Import], module_name: &Name, member: &Name) -> bool
-    ensures { result ≡ imported imports.now module_name.now member.now }
-{
-    for import in imports {
-        if module_name.same(&import.name) && has_member(import.library, member.as_slice()) {
-            return true;
-        }
-    }
-    false
-}
-
 impl Scope {
-    pub(crate) fn value_known(&self, name: &Name) -> bool
-        ensures { result ≡ value_known self.now name.now }
+    /// The module that the last import of this name brings in.
+    fn module_of(&self, name: &Name) -> Option<Library>
+        ensures { result ≡ module_of self.now name.now }
     {
-        self.values.contains(name)
+        let place = self.imports.find(name)?;
+        match self.libraries.as_slice().get(place) {
+            Some(library) => *library,
+            None => None,
+        }
     }
 
-    pub(crate) fn member_known(&self, module_name: &Name, member: &Name) -> bool
-        ensures { result ≡ member_known self.now module_name.now member.now }
+    /// The innermost value of this name.
+    pub fn value_meaning(&self, name: &Name) -> Option<Meaning>
+        ensures { result ≡ value_meaning self.now name.now }
     {
-        self.values.contains(module_name)
-            || is_imported(self.imports.as_slice(), module_name, member)
+        self.values.find(name).map(|level| Meaning::Value(level))
     }
 
-    pub(crate) fn type_known(&self, name: &Name) -> bool
-        ensures { result ≡ type_known self.now name.now }
+    /// What `module_name.member` means: the value, or else the member of the module.
+    pub fn member_meaning(&self, module_name: &Name, member: &Name) -> Option<Meaning>
+        ensures { result ≡ member_meaning self.now module_name.now member.now }
     {
-        self.types.contains(name) || is_built_in_type(name.as_slice())
+        if let Some(level) = self.values.find(module_name) {
+            return Some(Meaning::Value(level));
+        }
+        let library = self.module_of(module_name)?;
+        let member = member_of(library, member.as_slice())?;
+        Some(Meaning::Member(member))
     }
 
-    pub(crate) fn loop_known(&self, name: &Name) -> bool
-        ensures { result ≡ loop_known self.now name.now }
+    /// The innermost declared type of this name, or else the built-in one.
+    pub fn type_meaning(&self, name: &Name) -> Option<Meaning>
+        ensures { result ≡ type_meaning self.now name.now }
     {
-        contains(self.loops.as_slice(), name)
+        if let Some(level) = self.types.find(name) {
+            return Some(Meaning::Type(level));
+        }
+        let built_in = built_in_type(name.as_slice())?;
+        Some(Meaning::BuiltIn(built_in))
+    }
+
+    /// The innermost loop of this name.
+    pub fn loop_meaning(&self, name: &Name) -> Option<Meaning>
+        ensures { result ≡ loop_meaning self.now name.now }
+    {
+        self.loops.find(name).map(|level| Meaning::Loop(level))
     }
 
     pub(crate) fn add_values(&mut self, names: Names) -> Result<(), Memory>
@@ -175,35 +168,38 @@ impl Scope {
     }
 
     /// Takes the labels of loops away, and gives them.
-    pub(crate) fn hide_loops(&mut self, alloc: Global) -> Names
+    pub fn hide_loops(&mut self, alloc: Global) -> NameTable
         ensures scope { self.new ≡ without_loops self.old }
         ensures loops { result ≡ self.old.loops }
     {
-        std::mem::replace(&mut self.loops, Names::new(alloc))
+        std::mem::replace(&mut self.loops, NameTable::new(alloc))
     }
 
     /// Forgets the values and types that were added since there were so many, and the loops.
-    pub(crate) fn leave(&mut self, values: usize, types: usize, loops: Names)
-        ensures { self.new ≡ record { values = take values self.old.values; imports = self.old.imports; types = take types self.old.types; loops = loops } }
+    pub fn leave(&mut self, values: usize, types: usize, loops: NameTable)
+        ensures { self.new ≡ record { values = take values self.old.values; imports = self.old.imports; libraries = self.old.libraries; types = take types self.old.types; loops = loops } }
     {
         self.values.truncate(values);
         self.types.truncate(types);
         self.loops = loops;
     }
 
-    pub(crate) fn forget_values(&mut self, values: usize)
+    /// Forgets the values that were added since there were so many.
+    pub fn forget_values(&mut self, values: usize)
         ensures { self.new ≡ record self.old { values = take values self.old.values } }
     {
         self.values.truncate(values);
     }
 
-    pub(crate) fn forget_types(&mut self, types: usize)
+    /// Forgets the types that were added since there were so many.
+    pub fn forget_types(&mut self, types: usize)
         ensures { self.new ≡ record self.old { types = take types self.old.types } }
     {
         self.types.truncate(types);
     }
 
-    pub(crate) fn forget_loops(&mut self, loops: usize)
+    /// Forgets the loops that were added since there were so many.
+    pub fn forget_loops(&mut self, loops: usize)
         ensures { self.new ≡ record self.old { loops = take loops self.old.loops } }
     {
         self.loops.truncate(loops);

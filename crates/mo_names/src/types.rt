@@ -46,11 +46,11 @@ impl Walk {
             TypeExpression::Array(_, a) => self.type_expression(a.get(), scope),
             TypeExpression::Named(name, None) => {
                 identifier(self.rule, name)?;
-                known(self.rule, name.place(), scope.type_known(name))
+                known(self.rule, name.place(), scope.type_meaning(name).is_some())
             }
             TypeExpression::Named(name, Some(arguments)) => {
                 identifier(self.rule, name)?;
-                known(self.rule, name.place(), scope.type_known(name))?;
+                known(self.rule, name.place(), scope.type_meaning(name).is_some())?;
                 self.types(arguments.as_slice(), scope)
             }
             TypeExpression::Parenthesized(items) => self.type_items(items.as_slice(), scope),

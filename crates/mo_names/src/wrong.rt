@@ -7,7 +7,7 @@ use mo_syntax::Place;
 
 /// Why a walk over a tree stops.
 #[derive(Clone, Copy, Debug, PartialEq, Eq)]
-pub(crate) enum Wrong {
+pub enum Wrong {
     /// The rule is broken here.
     At(Place),
     Memory,

@@ -1,13 +1,15 @@
 //! The test of the names of a program.
-ghost use Rattle.std.specs.Prelude.{OnOk, IfErr};
+ghost use Rattle.std.specs.Prelude.{◌≡◌, OnOk, IfErr, IfOk, Some, map};
 ghost use Rattle.mo_names.specs.Order.{Ordered};
 ghost use Rattle.mo_names.specs.Bound.{Bound, Breaks};
+ghost use Rattle.mo_bindings.specs.ProgramMeanings.{meanings};
 ghost use Rattle.mo_order.specs.Fault.{Misorders};
 
 use crate::misplaced::Misplaced;
 use crate::order::are_in_order;
 use crate::walk::Walk;
-use mo_names::{NameFault, check_scopes};
+use mo_bindings::{Named, bind};
+use mo_names::NameFault;
 use mo_syntax::Tree;
 use std::alloc::Global;
 
@@ -31,14 +33,16 @@ pub fn check_order(alloc: Global, tree: &Tree) -> Result<(), NameFault>
     }
 }
 
-/// Tests that the names of a program are bound: each that is used has a meaning, none is bound twice in one list, pattern or type, no labels clash, none is
-/// reserved, and no value is used before it is defined (Motoko language manual, "Identifiers", "Declarations"). A fault names one of these conditions that
-/// is false of the program.
+/// Binds the names of a program, and says what each use of a name means, in the order of the source (Motoko language manual, "Identifiers",
+/// "Declarations"): each that is used has a meaning, none is bound twice in one list, pattern or type, no labels clash, none is reserved, and no value is
+/// used before it is defined. A fault names one of these conditions that is false of the program.
 #[tactic(auto, using(crate::proofs::Faults::breaks))]
-pub fn resolve(alloc: Global, tree: &Tree) -> Result<(), NameFault>
-    ensures ok { OnOk result (Bound tree.now) }
+pub fn resolve(alloc: Global, tree: &Tree) -> Result<Named, NameFault>
+    ensures bound { OnOk result (Bound tree.now) }
+    ensures named { IfOk result (λ named. map Some named ≡ meanings tree.now) }
     ensures err { IfErr result (Breaks tree.now) }
 {
-    check_scopes(alloc, tree)?;
-    check_order(alloc, tree)
+    let named = bind(alloc, tree)?;
+    check_order(alloc, tree)?;
+    Ok(named)
 }

@@ -3,8 +3,6 @@
 
 mod measure;
 mod source;
-#[cfg(test)]
-mod tests;
 
 use std::{env, io};
 

@@ -1,8 +1,10 @@
-use Rattle.std.proofs.Common.{◌≡◌, rules}
-use Rattle.mo_name_table.proofs.Finding.{inserted_name}
+use Rattle.std.proofs.Common.{ap, ◌∙◌, unwrap_or, None}
+use Rattle.std.specs.Map.{lookup}
+use Rattle.std.specs.Str.{bytes_eq}
+use Rattle.mo_name_table.proofs.Finding.{written_name}
 use Rattle.mo_name_table.proofs.table.keep.Goals as goal
 
-pub returns-clause-ok : goal.returns-clause-ok
-returns-clause-ok c = λ x.
-    let e : c.in_ok-key.key.items ≡ c.args.name.now = search rules in
-    rw c.in_ok-insert.ensures.entries (inserted_name (λ k. k.items) c.args.places.now.entries c.in_ok-key.key c.args.place c.args.name.now x e)
+pub returns-in-Some : goal.returns-in-Some
+returns-in-Some c = λ x.
+    ap (λ es. unwrap_or (lookup (λ k. bytes_eq x k.items) es) None) (c.get_mut.follows.holds c.args.place).0
+    ∙ written_name (λ k. k.items) c.args.places.now.entries c.as_slice.result.now c.args.name.now c.args.place x c.as_slice.ensures c.requires

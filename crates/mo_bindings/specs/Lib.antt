@@ -1,0 +1,5 @@
+pub mod Meanings
+pub mod TypeMeanings
+pub mod PatternMeanings
+pub mod ExpressionMeanings
+pub mod ProgramMeanings
