@@ -1,5 +1,5 @@
 //! The methods of a module in turn, by the clock.
-ghost use Rattle.std.specs.Prelude.{◌≡◌};
+ghost use Rattle.std.specs.Prelude.{◌≡◌, IfOk};
 ghost use Rattle.wasm_instance.specs.Fits.{IsInstanceOf};
 ghost use Rattle.wasm_instance.specs.Views.{kept};
 
@@ -33,17 +33,32 @@ fn invalid() -> io::Error {
     io::Error::from(ErrorKind::InvalidData)
 }
 
-/// Prints a line for each update method of the module in the file, with its time and its steps a second.
-pub fn all(rt: &HostRuntime, alloc: Global, file: &str) -> io::Result<()> {
+fn judged(alloc: Global, bytes: &[u8]) -> io::Result<Valid> {
+    let tree = read(alloc, bytes).map_err(|_| invalid())?;
+    validate(alloc, tree).map_err(|_| invalid())
+}
+
+fn module_of(rt: &HostRuntime, alloc: Global, file: &str) -> io::Result<Valid> {
     let bytes = fs::read(rt, file)?;
-    let tree = read(alloc, bytes.as_slice()).map_err(|_| invalid())?;
-    let valid = validate(alloc, tree).map_err(|_| invalid())?;
+    judged(alloc, bytes.as_slice())
+}
+
+fn loaded(alloc: Global, tree: &Valid) -> io::Result<Instance>
+    ensures { IfOk result (λ instance. IsInstanceOf tree.now (kept instance)) }
+{
     let mut instance = Instance::new(alloc, LIMITS).map_err(|_| lacking())?;
-    if instance.load(&valid).is_err() {
+    if instance.load(tree).is_err() {
         return Err(invalid());
     }
     instance.commit();
-    methods(rt, alloc, &valid, &mut instance)
+    Ok(instance)
+}
+
+/// Prints a line for each update method of the module in the file, with its time and its steps a second.
+pub fn all(rt: &HostRuntime, alloc: Global, file: &str) -> io::Result<()> {
+    let tree = module_of(rt, alloc, file)?;
+    let mut instance = loaded(alloc, &tree)?;
+    methods(rt, alloc, &tree, &mut instance)
 }
 
 // What update methods are exported as.

@@ -7,6 +7,7 @@ pub mod PatternGrammar
 pub mod ProgramGrammar
 pub mod Tokens
 pub mod TypeGrammar
+pub mod TypeWrites
 pub mod Words
 pub mod Writes
 pub mod Writing

@@ -19,6 +19,7 @@ mod patterns;
 mod place;
 mod program;
 mod token;
+mod type_layers;
 mod type_writing;
 mod types;
 mod word;
@@ -43,6 +44,3 @@ pub use token::{Token, TokenKind, Tokens};
 pub use types::{Sharing, TypeExpression, TypeField, TypeItem, TypeMethod, TypeParameter, TypeTag};
 pub use word::Word;
 pub use writing::tokens;
-
-#[cfg(test)]
-mod tests;

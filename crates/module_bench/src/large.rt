@@ -26,8 +26,8 @@ pub fn large_module(alloc: Global) -> Result<Bytes, Memory> {
     Ok(out)
 }
 
-/// Adds a section with its number and its size.
-pub fn section(out: &mut Bytes, number: u8, contents: &[u8]) -> Result<(), Memory> {
+// Adds a section with its number and its size.
+fn section(out: &mut Bytes, number: u8, contents: &[u8]) -> Result<(), Memory> {
     out.push(number)?;
     leb_write(contents.len() as u128, out)?;
     out.extend(contents)

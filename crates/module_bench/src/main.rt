@@ -2,11 +2,7 @@
 #![tactic(auto)]
 
 mod large;
-#[cfg(test)]
-mod limit_tests;
 mod measure;
-#[cfg(test)]
-mod table_tests;
 
 use std::{env, io};
 

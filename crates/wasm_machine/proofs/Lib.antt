@@ -12,7 +12,6 @@ pub mod Framed
 pub mod Given
 pub mod Grown
 pub mod Handing
-pub mod IsLaid
 pub mod Round
 pub mod SameKinds
 pub mod Tops

@@ -6,7 +6,6 @@ pub mod Hosts
 pub mod Operands
 pub mod Ran
 pub mod Running
-pub mod Sample
 pub mod Stacks
 pub mod Told
 pub mod Turns

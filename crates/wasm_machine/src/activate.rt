@@ -16,7 +16,7 @@ use wasm_tree::Trap;
 /// How the steps of an activation come to an end: by a call of a function, or of a place of the table with the type
 /// that the function must have, each with the place after it; by the body's end, or by a trap. The steps that are left
 /// and the number of operands go with each.
-#[derive(Clone, Copy, Debug, PartialEq, Eq)]
+#[derive(Clone, Copy)]
 pub enum End {
     Asks {
         function: u32,

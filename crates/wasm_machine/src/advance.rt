@@ -14,7 +14,7 @@ use wasm_tree::Trap;
 
 /// Where a step leads: to another place, to a call of a function or of a place of the table, and to the place after it,
 /// or to the end of the body; each with the steps that are left and how many operands are held.
-#[derive(Clone, Copy, Debug, PartialEq, Eq)]
+#[derive(Clone, Copy)]
 pub enum Moved {
     On {
         place: usize,

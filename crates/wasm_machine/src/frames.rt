@@ -17,7 +17,7 @@ use wasm_steps::{BodyLayout, Step};
 
 /// An activation that waits for a call: the place after it, where its cells begin, how many locals it has, its greatest
 /// height of operands, and the words for the frames that it calls.
-#[derive(Clone, Copy, Debug, PartialEq, Eq)]
+#[derive(Clone, Copy)]
 pub struct Saved {
     pub place: usize,
     pub base: usize,
@@ -27,7 +27,7 @@ pub struct Saved {
 }
 
 /// The innermost activation: the same of it, with how many operands it holds and how many activations wait.
-#[derive(Clone, Copy, Debug, PartialEq, Eq)]
+#[derive(Clone, Copy)]
 pub struct Here {
     pub place: usize,
     pub base: usize,

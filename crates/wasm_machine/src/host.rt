@@ -2,7 +2,7 @@
 use page_store::KeptPages;
 
 /// How a call of an imported function may fail: it traps, or memory was wanting.
-#[derive(Clone, Copy, Debug, PartialEq, Eq)]
+#[derive(Clone, Copy)]
 pub enum HostEnd {
     Trap,
     Memory,

@@ -12,8 +12,6 @@ mod host;
 mod memory;
 mod operands;
 mod sought;
-#[cfg(test)]
-mod tests;
 mod turn;
 
 pub use call::Stop;

@@ -21,7 +21,7 @@ use wasm_tree::{Module, Trap};
 
 /// What a turn leads to: the activation that goes on, and the steps that are left, or the end of the outermost one, with
 /// how many results it leaves.
-#[derive(Clone, Copy, Debug, PartialEq, Eq)]
+#[derive(Clone, Copy)]
 pub enum Turn {
     On { here: Here, left: u64 },
     Done { left: u64, held: usize },

@@ -7,14 +7,10 @@ mod code_spelled;
 mod module_parts;
 mod op;
 mod op_spelled;
-#[cfg(test)]
-mod op_tests;
 mod opcodes;
 mod parts_spelled;
 mod rule;
 mod spell;
-#[cfg(test)]
-mod tests;
 mod trap;
 mod types;
 mod writer;

@@ -18,19 +18,28 @@ pub fn write(alloc: Global, tree: &Module) -> Result<Bytes, Memory>
     ensures { IfOk result (λ bytes. IsLeast (Written tree.now) bytes) }
 {
     let mut out = Bytes::new(alloc);
-    put_exactly(b"\0asm\x01\0\0\0", &mut out)?;
-    put_vector_section::<Itself, _>(alloc, 1, &tree.types, &mut out)?;
-    put_vector_section::<Itself, _>(alloc, 2, &tree.imports, &mut out)?;
-    put_vector_section::<Signature, _>(alloc, 3, &tree.functions, &mut out)?;
-    put_vector_section::<Table, _>(alloc, 4, &tree.tables, &mut out)?;
-    put_vector_section::<Itself, _>(alloc, 5, &tree.memories, &mut out)?;
-    put_vector_section::<Itself, _>(alloc, 6, &tree.globals, &mut out)?;
-    put_vector_section::<Itself, _>(alloc, 7, &tree.exports, &mut out)?;
-    put_start(alloc, tree.start, &mut out)?;
-    put_vector_section::<Itself, _>(alloc, 9, &tree.elements, &mut out)?;
-    put_vector_section::<Itself, _>(alloc, 10, &tree.functions, &mut out)?;
-    put_vector_section::<Itself, _>(alloc, 11, &tree.segments, &mut out)?;
+    put_module(alloc, tree, &mut out)?;
     Ok(out)
+}
+
+// The sections in order. An early return has nothing to drop here.
+fn put_module(alloc: Global, tree: &Module, out: &mut Bytes) -> Result<(), Memory>
+    requires { HasSpelling (Written tree.now) }
+    ensures { OnOk result (AppendsLeast (Written tree.now) out.old out.new) }
+{
+    put_exactly(b"\0asm\x01\0\0\0", out)?;
+    put_vector_section::<Itself, _>(alloc, 1, &tree.types, out)?;
+    put_vector_section::<Itself, _>(alloc, 2, &tree.imports, out)?;
+    put_vector_section::<Signature, _>(alloc, 3, &tree.functions, out)?;
+    put_vector_section::<Table, _>(alloc, 4, &tree.tables, out)?;
+    put_vector_section::<Itself, _>(alloc, 5, &tree.memories, out)?;
+    put_vector_section::<Itself, _>(alloc, 6, &tree.globals, out)?;
+    put_vector_section::<Itself, _>(alloc, 7, &tree.exports, out)?;
+    put_start(alloc, tree.start, out)?;
+    put_vector_section::<Itself, _>(alloc, 9, &tree.elements, out)?;
+    put_vector_section::<Itself, _>(alloc, 10, &tree.functions, out)?;
+    put_vector_section::<Itself, _>(alloc, 11, &tree.segments, out)?;
+    Ok(())
 }
 
 // The section of the start function, which stands only where there is one.

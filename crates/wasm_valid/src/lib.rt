@@ -12,8 +12,6 @@ mod names;
 mod operands;
 mod parts;
 mod signatures;
-#[cfg(test)]
-mod tests;
 mod validation;
 
 pub use fault::ValidFault;
