@@ -3,8 +3,6 @@
 
 mod measure;
 mod source;
-#[cfg(test)]
-mod source_tests;
 
 use std::{env, io};
 

@@ -14,8 +14,6 @@ mod number;
 mod piece;
 mod sign;
 mod stop;
-#[cfg(test)]
-mod tests;
 
 pub use fault::LexFault;
 pub use lexer::{MOST_BYTES, lex};

@@ -11,6 +11,3 @@ mod program;
 pub use entry::parse;
 pub use fault::ParseFault;
 pub use law::one_tree;
-
-#[cfg(test)]
-mod tests;

@@ -8,6 +8,3 @@ mod text;
 mod token;
 
 pub use spelling::{spell, unparse};
-
-#[cfg(test)]
-mod tests;

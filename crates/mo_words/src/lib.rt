@@ -4,8 +4,6 @@
 mod command;
 mod options;
 mod split;
-#[cfg(test)]
-mod tests;
 
 pub use command::{Command, Replay, read_words};
 pub use options::Options;
