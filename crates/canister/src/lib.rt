@@ -10,7 +10,5 @@ mod installing;
 mod items;
 mod memories;
 mod messages;
-#[cfg(test)]
-mod tests;
 
 pub use canister::Canister;

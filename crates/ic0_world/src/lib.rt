@@ -5,8 +5,6 @@ mod call;
 mod function;
 mod kind;
 mod memory;
-#[cfg(test)]
-mod tests;
 mod world;
 
 pub use call::CallEnd;

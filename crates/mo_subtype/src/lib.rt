@@ -5,8 +5,6 @@ mod ask;
 mod laws;
 mod pairs;
 mod search;
-#[cfg(test)]
-mod tests;
 
 pub use laws::{closed_pairs_hold, renaming_keeps_subtyping};
 pub use pairs::{Pair, Pairs};

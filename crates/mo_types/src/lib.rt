@@ -10,8 +10,6 @@ mod key;
 mod label;
 mod layout;
 mod node;
-#[cfg(test)]
-mod tests;
 mod wire;
 
 pub use candid_laws::{

@@ -5,8 +5,6 @@ mod committed;
 mod kept_pages;
 mod marks;
 mod pages;
-#[cfg(test)]
-mod tests;
 
 pub use committed::Committed;
 pub use kept_pages::KeptPages;

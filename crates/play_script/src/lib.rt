@@ -9,11 +9,7 @@ mod place;
 mod reading;
 mod script;
 mod script_laws;
-#[cfg(test)]
-mod script_tests;
 mod suit;
-#[cfg(test)]
-mod tests;
 mod text;
 mod verb;
 mod words;

@@ -8,5 +8,4 @@ pub mod Valid
 pub mod Short
 pub mod Spelled
 pub mod Builds
-pub mod Named
 pub mod Only

@@ -4,7 +4,5 @@
 mod build;
 mod parts;
 mod reply;
-#[cfg(test)]
-mod tests;
 
 pub use build::build_queries;

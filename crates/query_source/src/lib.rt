@@ -5,8 +5,6 @@ mod actor;
 mod labels;
 mod query;
 mod source;
-#[cfg(test)]
-mod tests;
 mod token;
 mod words;
 

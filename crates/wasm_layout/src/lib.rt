@@ -11,8 +11,6 @@ mod module_layout;
 mod pass;
 mod size;
 mod stack;
-#[cfg(test)]
-mod tests;
 
 pub use fault::LayoutFault;
 pub use frame::frame_words;

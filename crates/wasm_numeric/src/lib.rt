@@ -9,8 +9,6 @@ mod bits;
 mod comparison;
 mod conversion;
 mod memory;
-#[cfg(test)]
-mod tests;
 
 pub use arithmetic::binary;
 pub use bits::unary;

@@ -2,8 +2,6 @@
 #![tactic(auto)]
 
 mod code;
-#[cfg(test)]
-mod each_test;
 mod expression;
 mod fault;
 mod instruction;
@@ -13,8 +11,6 @@ mod part;
 mod reading;
 mod section;
 mod shape;
-#[cfg(test)]
-mod tests;
 mod vector;
 
 pub use fault::ReadFault;

@@ -5,8 +5,6 @@ mod constant;
 mod room;
 mod segments;
 mod store;
-#[cfg(test)]
-mod tests;
 
 pub use room::Room;
 pub use store::{LoadTrap, MOST_ENTRIES, MOST_GLOBALS, Store};

@@ -1,0 +1,13 @@
+//! Tests of the front end: tokens, trees, and texts of trees.
+#![tactic(auto)]
+
+#[cfg(test)]
+mod lexing;
+#[cfg(test)]
+mod parsing;
+#[cfg(test)]
+mod sources;
+#[cfg(test)]
+mod spelling;
+#[cfg(test)]
+mod tree_tokens;
