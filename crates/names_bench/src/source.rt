@@ -11,7 +11,7 @@ fn function(alloc: Global, index: u32, last: u32) -> Result<String, AllocError> 
     format!(in alloc; "  func f{index}(x{index} : Nat) : Nat {{ f{before}(x{index}) }};\n")
 }
 
-// `let a1 = a0; type T1 = ?T0;`
+// A value that is the one before it, and a type of options of the one before it.
 fn value_and_type(alloc: Global, index: u32) -> Result<String, AllocError> {
     if index == 0 {
         return format!(in alloc; "  let a0 = 1;\n  type T0 = Nat;\n");
