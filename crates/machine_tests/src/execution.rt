@@ -1,15 +1,16 @@
-//! A run of a whole execution. The sum of the numbers below 1,000 and the twelve steps of each turn are worked out by hand.
-ghost use Rattle.std.specs.Prelude.{◌≡◌, [], IfOk};
+//! Runs of a whole execution, to the step and to the stack word. The sum of the numbers below 1,000, the twelve steps of each
+//! turn and the words of a frame are worked out by hand.
+ghost use Rattle.std.specs.Prelude.{◌≡◌, ◌≤◌, [], IfOk};
 ghost use Rattle.machine_tests.specs.Sample.{the_module, the_layout};
 
 use mo_num::Sequence;
 use page_store::KeptPages;
 use std::alloc::{AllocError, Global};
 use std::test::Fail;
-use wasm_machine::{Host, HostEnd, Saved, execute};
+use wasm_machine::{Host, HostEnd, Saved, Stop, execute};
 use wasm_steps::{BodyLayout, FunctionLayout, Label, ModuleLayout, Step};
 use wasm_tree::{
-    BinaryOperator, Comparison, Function, FunctionType, Locals, Module, Op, Plain, ValueType,
+    BinaryOperator, Comparison, Function, FunctionType, Locals, Module, Op, Plain, Trap, ValueType,
 };
 
 #[derive(Drop)]
@@ -138,11 +139,19 @@ fn make_layout(a: Global) -> Result<ModuleLayout, AllocError>
     })
 }
 
-#[test]
-fn sums(rt: HostRuntime) -> Result<(), Fail> {
-    let a = rt.alloc();
-    let module = make_module(a)?;
-    let layout = make_layout(a)?;
+// How an execution with so many steps and stack words ends, and what its first cell holds then.
+fn outcome(
+    alloc: Global,
+    module: &Module,
+    layout: &ModuleLayout,
+    steps: u64,
+    words: usize,
+) -> Result<(Result<u64, Stop>, u64), AllocError>
+    requires module { module.now ≡ the_module }
+    requires layout { layout.now ≡ the_layout }
+    requires words { words ≤ 16 }
+{
+    let mut memory = KeptPages::new(alloc, 1)?;
     let mut cells = [0u64; 16];
     let mut saved = [Saved {
         place: 0,
@@ -152,26 +161,44 @@ fn sums(rt: HostRuntime) -> Result<(), Fail> {
         room: 0,
     }; 2];
     let mut globals = [0u64; 0];
-    let mut memory = KeptPages::new(a, 1)?;
     let mut refused = false;
     let mut host = NoHost;
     let end = execute(
         &mut host,
-        &module,
-        &layout,
+        module,
+        layout,
         &[],
         0,
         0,
         &[],
-        20_000,
-        13,
+        steps,
+        words,
         &mut cells,
         &mut saved,
         &mut globals,
         &mut memory,
         &mut refused,
     );
-    assert_eq!(rt; end, Ok(8_000));
-    assert_eq!(rt; cells[0], 499_500);
+    Ok((end, cells[0]))
+}
+
+// Its frame takes 13 words: eight, two locals, two operands and a block.
+#[test]
+fn sums(rt: HostRuntime) -> Result<(), Fail> {
+    let a = rt.alloc();
+    let module = make_module(a)?;
+    let layout = make_layout(a)?;
+    for (steps, words, end, sum) in [
+        (20_000, 13, Ok(8_000), 499_500),
+        (12_000, 13, Ok(0), 499_500),
+        (11_999, 13, Err(Stop::Trapped(Trap::Steps)), 499_500),
+        (0, 13, Err(Stop::Trapped(Trap::Steps)), 0),
+        (12_000, 16, Ok(0), 499_500),
+        (20_000, 12, Err(Stop::Trapped(Trap::Stack)), 0),
+    ] {
+        assert!(rt; words <= 16);
+        let found = outcome(a, &module, &layout, steps, words)?;
+        assert_eq!(rt; found, (end, sum), "{steps} {words}");
+    }
     Ok(())
 }
