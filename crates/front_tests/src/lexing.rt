@@ -262,6 +262,7 @@ fn numbers(rt: HostRuntime) -> Result<(), Fail> {
             (b"0xffff_ffff_ffff_ffff", "n18446744073709551615 "),
             (b"18446744073709551616", "WideNumber(0)"),
             (b"a 0x10000000000000000", "WideNumber(2)"),
+            (b"actor { let x = 0x10000000000000000 }", "WideNumber(16)"),
             (b"99999999999999999999999999999\xFF", "WideNumber(0)"),
             (b"18446744073709551615\xFF", "BadByte(20)"),
         ],

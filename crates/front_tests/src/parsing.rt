@@ -1,7 +1,7 @@
 //! Programs that are read, the places where others are refused, and how an operator groups.
 use mo_lexer::lex;
 use mo_parser::{ParseFault, parse};
-use mo_syntax::{ActorField, Expression, Tree};
+use mo_syntax::{ActorField, Declaration, Expression, Tree};
 use std::alloc::Global;
 use std::test::Fail;
 
@@ -40,7 +40,7 @@ fn reads_programs(rt: HostRuntime) -> Result<(), Fail> {
 #[test]
 fn refuses_others(rt: HostRuntime) -> Result<(), Fail> {
     let alloc = rt.alloc();
-    let sources: [(&[u8], u32); 9] = [
+    let sources: [(&[u8], u32); 28] = [
         (b"", 0),
         (b"actor { let x = 1 < 2 < 3 }", 22),
         (b"actor", 5),
@@ -50,6 +50,25 @@ fn refuses_others(rt: HostRuntime) -> Result<(), Fail> {
         (b"actor { ; }", 8),
         (b"actor { public let x = 1 }", 15),
         (b"actor { } }", 10),
+        (b"module {}", 0),
+        (b"import L \"lib\"; module {}", 16),
+        (b"import P; actor { }", 8),
+        (b"actor { } ; ;", 12),
+        (b"actor { let x = (1", 18),
+        (b"actor { let x = }", 16),
+        (b"actor { let composite = 1 }", 12),
+        (b"actor { var x }", 14),
+        (b"actor { public func f() { } }", 24),
+        (b"actor { let x = 1 == 2 != 3 }", 23),
+        (b"actor { - a := b }", 12),
+        (b"actor { let x = a #b }", 18),
+        (b"actor { if x { a = 1 } }", 17),
+        (b"actor { if x { } else }", 22),
+        (b"actor { f(x) else y }", 13),
+        (b"actor { if a b else c else d }", 22),
+        (b"actor { loop 1 while 2 while 3 }", 23),
+        (b"actor { { x = 1 } }", 8),
+        (b"actor { switch x { case ?y 1 } }", 24),
     ];
     for (source, place) in sources {
         match parsed(alloc, source)? {
@@ -60,22 +79,42 @@ fn refuses_others(rt: HostRuntime) -> Result<(), Fail> {
     Ok(())
 }
 
+// The expression that is the first field of the actor.
+fn first_expression(tree: &Tree) -> Option<&Expression> {
+    match tree.actor.get().fields.as_slice().first()?.get() {
+        ActorField::Declared(false, declaration) => match declaration.get() {
+            Declaration::Evaluate(a) => Some(a.get()),
+            _ => None,
+        },
+        _ => None,
+    }
+}
+
 #[test]
-fn groups_to_the_left(rt: HostRuntime) -> Result<(), Fail> {
-    let alloc = rt.alloc();
-    let tree = parsed(alloc, b"actor { 1 - 2 - 3 }")?
+fn minus_groups_to_the_left(rt: HostRuntime) -> Result<(), Fail> {
+    let tree = parsed(rt.alloc(), b"actor { 1 - 2 - 3 }")?
         .ok()
         .ok_or("refused")?;
-    let Some(field) = tree.actor.get().fields.as_slice().first() else {
-        return Err("no field")?;
-    };
-    if let ActorField::Declared(false, declaration) = field.get() {
-        if let mo_syntax::Declaration::Evaluate(a) = declaration.get() {
-            if let Expression::Binary(_, left, _) = a.get() {
-                assert!(rt; matches!(left.get(), Expression::Binary(_, _, _)));
-                return Ok(());
-            }
+    match first_expression(&tree) {
+        Some(Expression::Binary(_, left, right)) => {
+            assert!(rt; matches!(left.get(), Expression::Binary(_, _, _)));
+            assert!(rt; matches!(right.get(), Expression::Constant(_)));
         }
+        _ => assert!(rt; false),
     }
-    Err("another tree")?
+    Ok(())
+}
+
+#[test]
+fn an_else_goes_to_the_nearest_if(rt: HostRuntime) -> Result<(), Fail> {
+    let tree = parsed(rt.alloc(), b"actor { if a if b c else d }")?
+        .ok()
+        .ok_or("refused")?;
+    match first_expression(&tree) {
+        Some(Expression::If(_, inner, None)) => {
+            assert!(rt; matches!(inner.get(), Expression::If(_, _, Some(_))));
+        }
+        _ => assert!(rt; false),
+    }
+    Ok(())
 }

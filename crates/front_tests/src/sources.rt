@@ -1,30 +1,49 @@
 //! Sources as people write them: read, written as a text, and read again; and the limit of depth.
+use crate::kinds::{all_same, kinds_of};
 use crate::lexing::LEDGER;
 use mo_lexer::lex;
 use mo_num::Bytes;
 use mo_parser::{ParseFault, parse};
-use mo_syntax::Tree;
-use mo_unparse::unparse;
+use mo_syntax::{Tree, tokens};
+use mo_unparse::{spell, unparse};
 use std::alloc::Global;
 use std::test::Fail;
 
-fn tree_of(alloc: Global, source: &[u8]) -> Result<(usize, Tree), Fail> {
+fn tree_of(alloc: Global, source: &[u8]) -> Result<Tree, Fail> {
     let Ok(tokens) = lex(alloc, source) else {
         return Err(Fail::from("no tokens"));
     };
     match parse(alloc, tokens.as_slice()) {
-        Ok(tree) => Ok((tokens.len(), tree)),
+        Ok(tree) => Ok(tree),
         Err(_) => Err(Fail::from("no tree")),
     }
 }
 
-// Whether the text of the source's tree has as many tokens, and a tree with the same text.
+// Whether the tree of the source has the source's tokens, and the text of the tree has them too.
 fn comes_back(alloc: Global, source: &[u8]) -> Result<bool, Fail> {
-    let (count, tree) = tree_of(alloc, source)?;
+    let kinds = kinds_of(alloc, source)?;
+    let tree = tree_of(alloc, source)?;
+    let written = tokens(alloc, &tree)?;
     let text = unparse(alloc, &tree)?;
-    let (again, tree) = tree_of(alloc, text.as_slice())?;
-    let second = unparse(alloc, &tree)?;
-    Ok(count == again && text.as_slice() == second.as_slice())
+    let again = kinds_of(alloc, text.as_slice())?;
+    let both = all_same(kinds.as_slice(), written.as_slice())
+        && all_same(kinds.as_slice(), again.as_slice());
+    Ok(both)
+}
+
+#[test]
+fn the_tokens_of_a_query(rt: HostRuntime) -> Result<(), Fail> {
+    let source = b"actor { public query func answer() : async Nat { 42 } }";
+    assert!(rt; comes_back(rt.alloc(), source)?);
+    let tree = tree_of(rt.alloc(), source)?;
+    let written = tokens(rt.alloc(), &tree)?;
+    assert_eq!(rt; written.len(), 15);
+    let text = spell(rt.alloc(), written.as_slice())?;
+    assert_eq!(rt;
+        text.as_slice(),
+        b" actor { public query func answer ( ) : async Nat { 42 } }\n".as_slice()
+    );
+    Ok(())
 }
 
 #[test]
@@ -50,6 +69,11 @@ fn queries_and_updates(rt: HostRuntime) -> Result<(), Fail> {
         "actor { var n = 0; let o = actor \"ryjl3-tyaaa-aaaaa-aaaba-cai\" : actor { f : shared () -> async () }; public func bad() : async () { n += 1; assert false }; public query func get() : async Nat { n }; public func go() : async () { n += 1; await o.f(); n += 1; assert false } }",
         "actor { func f(x : ?Nat) : Nat { switch x { case null 0 } } }",
         "actor { let a = b; let b = 1 }",
+        "actor {}",
+        "actor { var n = 0; let o = actor \"rrkah-fqaaa-aaaaa-aaaaq-caj\" : actor { f : shared () -> async () }; public func go() : async () { n += 1; await o.f(); n += 1; assert false } }",
+        "actor { public func __resume() : async () {} }",
+        "actor { public query func go(x : Nat) : async Nat { var s = x; s := (s * 3 + 0) % 1000000; s := (s * 3 + 1) % 1000000; s } }",
+        "actor {\n  let a : [Nat] = [13, 7932];\n  func f0(x : Nat) : Nat { (x * 3 + 0) % 1000000 };\n  public query func go(x : Nat) : async Nat {\n    var s = x;\n    for (v in a.vals()) { s := (s + v) % 1000000 };\n    s := f0(s);\n    s\n  };\n}\n",
     ] {
         assert!(rt; comes_back(rt.alloc(), source.as_bytes())?, "{source}");
     }
@@ -80,6 +104,29 @@ fn declarations_and_types(rt: HostRuntime) -> Result<(), Fail> {
         "actor { func id<T>(x : T) : T { x }; public query func f() : async Nat { id(41) + 1 } }",
         "actor { func box<T>(x : T) : [var T] { [var x] }; let b = box(1) }",
         "actor { let x = if true 1 else \"a\" }",
+        "actor { func make(n : Nat) : (() -> Nat) { func () : Nat { n } }; let three = make(3)() }",
+        "actor { type Balance = Nat; type Id<T> = T; type X = Id<X>; type R = { x : R }; type P = (Nat, Text) }",
+        "actor { stable var a : { var x : Nat; y : Nat } = { var x = 1; y = 2 }; stable var b : { var x : Nat } = a }",
+    ] {
+        assert!(rt; comes_back(rt.alloc(), source.as_bytes())?, "{source}");
+    }
+    Ok(())
+}
+
+// Forms that a reader of tokens easily gets wrong.
+#[test]
+fn forms(rt: HostRuntime) -> Result<(), Fail> {
+    for source in [
+        "actor { var z : Nat8 = 0; z -= 1; (2 : Int) ** (-1); 1 ** 9223372036854775807 }",
+        "actor { let a = o.f(); await a; await a; n += await o.g(); a[3] := await o.g(); a[5] += Debug.trap(\"x\") }",
+        "actor { let x = Int.toText(-9223372036854775808); let t : Text = \"\\ff\"; \"\\c3\\a9\".size() }",
+        "actor { try { assert false } catch (_) {}; try { await o.f() } catch (e) { await o.f(); throw e } }",
+        "actor { func k() : Nat { x }; let x = await o.g(); k(); false and (await o.b()) or not true }",
+        "actor { let q = object { let x = await o.g(); public func h() : Nat { x } }; q.h() }",
+        "actor { label m { ignore [break m, 1, 2] }; switch x {}; while (await a) {}; loop { let c = [1]; ignore c } }",
+        "actor { public func f(?x : ?Nat) : async (?Char, ?Nat32) { (null, null) } }",
+        "actor { if (a == b) if c d else e; if x { y } else { z }; do ? { w!.0.v }; do { ({ u = 1 }).u } }",
+        "actor { for (x in [var 1, 2].vals()) { a[1] := 9 }; #t; #t 1; #t (1, 2); a#b; a # #b; return #err \"x\" }",
     ] {
         assert!(rt; comes_back(rt.alloc(), source.as_bytes())?, "{source}");
     }
@@ -106,24 +153,31 @@ fn nested(alloc: Global, count: usize) -> Result<Bytes, Fail> {
     Ok(source)
 }
 
-fn is_too_deep(alloc: Global, count: usize) -> Result<bool, Fail> {
+// Where a token stands too deep, if one does.
+fn deep_at(alloc: Global, count: usize) -> Result<Option<u32>, Fail> {
     let source = nested(alloc, count)?;
     let Ok(tokens) = lex(alloc, source.as_slice()) else {
         return Err(Fail::from("no tokens"));
     };
     match parse(alloc, tokens.as_slice()) {
-        Ok(_) => Ok(false),
-        Err(ParseFault::TooDeep(_)) => Ok(true),
+        Ok(_) => Ok(None),
+        Err(ParseFault::TooDeep(place)) => Ok(Some(place)),
         Err(_) => Err(Fail::from("another fault")),
     }
 }
 
-// At the first closing mark the depth is seven more than the count: two for `actor`, four for what stands before the
-// parentheses, and one for the number.
+// The depth is 6 at the first opening mark, of which the actor makes two and what stands before the mark four, and one more
+// at each mark behind it. At the first closing mark it is seven more than the count, since the number counts too.
 #[test]
 fn depth(rt: HostRuntime) -> Result<(), Fail> {
-    for (count, too_deep) in [(1, false), (393, false), (394, true), (100_000, true)] {
-        assert_eq!(rt; is_too_deep(rt.alloc(), count)?, too_deep, "{count}");
+    for (count, place) in [
+        (1, None),
+        (393, None),
+        (394, Some(411)),
+        (395, Some(411)),
+        (100_000, Some(411)),
+    ] {
+        assert_eq!(rt; deep_at(rt.alloc(), count)?, place, "{count}");
     }
     Ok(())
 }

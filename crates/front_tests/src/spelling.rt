@@ -1,34 +1,9 @@
 //! Lists of tokens, spelled and read again. What is expected of the spelling was worked out by hand.
-use mo_lexer::lex;
+use crate::kinds::{all_same, kinds_of};
 use mo_num::Bytes;
 use mo_syntax::{Actor, Items, Kinds, Name, Node, Place, TokenKind, Tree};
 use mo_unparse::{spell, unparse};
-use std::alloc::Global;
 use std::test::Fail;
-
-fn kinds_of(alloc: Global, source: &[u8]) -> Result<Kinds, Fail> {
-    let mut kinds = Kinds::new(alloc);
-    for token in lex(alloc, source)?.into_vec() {
-        kinds.push(token.kind)?;
-    }
-    Ok(kinds)
-}
-
-fn same(a: &TokenKind, b: &TokenKind) -> bool {
-    match (a, b) {
-        (TokenKind::Identifier(x), TokenKind::Identifier(y)) => x.as_slice() == y.as_slice(),
-        (TokenKind::Reserved(x), TokenKind::Reserved(y)) => *x == *y,
-        (TokenKind::Number(x), TokenKind::Number(y)) => *x == *y,
-        (TokenKind::Character(x), TokenKind::Character(y)) => *x == *y,
-        (TokenKind::Text(x), TokenKind::Text(y)) => x.as_slice() == y.as_slice(),
-        (TokenKind::Mark(x), TokenKind::Mark(y)) => *x == *y,
-        _ => false,
-    }
-}
-
-fn all_same(a: &[TokenKind], b: &[TokenKind]) -> bool {
-    a.len() == b.len() && a.iter().zip(b).all(|(x, y)| same(x, y))
-}
 
 #[test]
 fn spelled_and_read_again(rt: HostRuntime) -> Result<(), Fail> {
