@@ -143,6 +143,19 @@ fn modules_are_played(rt: HostRuntime) -> Result<(), Fail> {
             b"\0asm\x01\0\0\0\x01\x04\x01`\0\0\x03\x02\x01\0\x08\x01\0\x0a\x09\x01\x07\0\x03@\x0c\0\x0b\x0b".as_slice(),
             b"trapped steps\n".as_slice(),
         ),
+        // Two steps, 1,666 turns of six, and two `nop` or three.
+        (
+            "play --steps 10000 s a",
+            INSTALL,
+            b"\0asm\x01\0\0\0\x01\x04\x01`\0\0\x03\x02\x01\0\x08\x01\0\x0a\x19\x01\x17\x01\x01\x7fA\x82\x0d!\0\x03@ \0A\x01k\"\0\x0d\0\x0b\x01\x01\x0b".as_slice(),
+            b"installed\n".as_slice(),
+        ),
+        (
+            "play --steps 10000 s a",
+            INSTALL,
+            b"\0asm\x01\0\0\0\x01\x04\x01`\0\0\x03\x02\x01\0\x08\x01\0\x0a\x1a\x01\x18\x01\x01\x7fA\x82\x0d!\0\x03@ \0A\x01k\"\0\x0d\0\x0b\x01\x01\x01\x0b".as_slice(),
+            b"trapped steps\n".as_slice(),
+        ),
         (
             "play --pages 1 s a",
             INSTALL,
