@@ -69,7 +69,7 @@ module _ {V : Type 0} (Spells : List ℕ → V → Type 0) (last : ℕ → V) (m
   pub digits_exact : (k : ℕ) → Exact (Within Spells k) (digits_at wide last more k)
   digits_exact k = record { sound = digits_sound k; complete = λ v front rest h. digits_complete k v front rest h }
 
-  digits_short : (k : ℕ) (bytes : List ℕ) → AreBytes bytes → length bytes < k → NoneEnds bytes → digits_at wide last more k bytes ≡ Err Short
+  pub digits_short : (k : ℕ) (bytes : List ℕ) → AreBytes bytes → length bytes < k → NoneEnds bytes → digits_at wide last more k bytes ≡ Err Short
   digits_short zero bytes all lt none = absurd (omega (arith, lt))
   digits_short (suc k) [] all lt none = refl
   digits_short (suc k) (b ∷ bs) all lt none =
@@ -77,7 +77,7 @@ module _ {V : Type 0} (Spells : List ℕ → V → Type 0) (last : ℕ → V) (m
       ∙ ap (λ t. cond t (made (more b) (digits_at wide last more k) bs) (Err wide)) (lt-ltb b 256 all.0)
       ∙ ap (λ (s : Result (V × List ℕ) Fault). s >>= λ x. Ok (more b x.0, x.1)) (digits_short k bs all.1 (omega (arith, lt)) none.1)
 
-  digits_wide : (k : ℕ) (bytes : List ℕ) → k ≤ length bytes → NoneEnds (take k bytes) → digits_at wide last more k bytes ≡ Err wide
+  pub digits_wide : (k : ℕ) (bytes : List ℕ) → k ≤ length bytes → NoneEnds (take k bytes) → digits_at wide last more k bytes ≡ Err wide
   digits_wide zero bytes le none = refl
   digits_wide (suc k) [] le none = absurd (omega (arith, le))
   digits_wide (suc k) (b ∷ bs) le none =
@@ -95,14 +95,14 @@ module _ {V : Type 0} (Spells : List ℕ → V → Type 0) (last : ℕ → V) (m
         let d : b.rest ≡ drop count bytes = sym (drop-append_seam b.front b.rest) ∙ ap (λ c. drop c (b.front ++ b.rest)) b.counted ∙ ap (λ l. drop count l) (sym b.whole) in
         e ∙ ap (λ l. Ok (n, l)) d
 
-    reads_ok : (bytes : List ℕ) (n : V) (count : ℕ) → Reads Spells Fits k bytes (Ok (n, count)) → kept wide test (digits_at wide last more k) bytes ≡ Ok (n, drop count bytes)
+    pub reads_ok : (bytes : List ℕ) (n : V) (count : ℕ) → Reads Spells Fits k bytes (Ok (n, count)) → kept wide test (digits_at wide last more k) bytes ≡ Ok (n, drop count bytes)
     reads_ok bytes n count h =
         ap (λ (s : Result (V × List ℕ) Fault). s >>= λ x. cond (test x.0) (Ok x) (Err wide)) (front_is bytes n count h.0) ∙ ap (λ t. cond t (Ok (n, drop count bytes)) (Err wide)) (yes n h.1)
 
-    reads_short : (bytes : List ℕ) → AreBytes bytes → Reads Spells Fits k bytes (Err leb.Short) → kept wide test (digits_at wide last more k) bytes ≡ Err Short
+    pub reads_short : (bytes : List ℕ) → AreBytes bytes → Reads Spells Fits k bytes (Err leb.Short) → kept wide test (digits_at wide last more k) bytes ≡ Err Short
     reads_short bytes all h = ap (λ (s : Result (V × List ℕ) Fault). s >>= λ x. cond (test x.0) (Ok x) (Err wide)) (digits_short k bytes all h.0 h.1)
 
-    reads_wide : (bytes : List ℕ) → Reads Spells Fits k bytes (Err leb.TooWide) → kept wide test (digits_at wide last more k) bytes ≡ Err wide
+    pub reads_wide : (bytes : List ℕ) → Reads Spells Fits k bytes (Err leb.TooWide) → kept wide test (digits_at wide last more k) bytes ≡ Err wide
     reads_wide bytes (inl h) = ap (λ (s : Result (V × List ℕ) Fault). s >>= λ x. cond (test x.0) (Ok x) (Err wide)) (digits_wide k bytes h.0 h.1)
     reads_wide bytes (inr h) =
         ap (λ (s : Result (V × List ℕ) Fault). s >>= λ x. cond (test x.0) (Ok x) (Err wide)) (front_is bytes h.0 h.1 h.2) ∙ by (test h.0) refl
@@ -111,7 +111,7 @@ module _ {V : Type 0} (Spells : List ℕ → V → Type 0) (last : ℕ → V) (m
         by false e = refl
         by true e = absurd (h.3 (fits h.0 e))
 
-leb_digits : Digits IsLeb (λ b. b) (λ b high. b - 128 + 128 * high)
+pub leb_digits : Digits IsLeb (λ b. b) (λ b high. b - 128 + 128 * high)
 leb_digits = record {
   some = λ v h. h;
   ends = λ b h. (h, refl);
@@ -137,7 +137,7 @@ sleb_ended b v (inr h) =
     let e : pos b -ℤ pos 128 ≡ v = omega (arith, ints, h.2) in
     (h.1, ap (λ t. cond t (pos b) (pos b -ℤ pos 128)) (le-ltb b 64 h.0) ∙ e)
 
-sleb_digits : Digits IsSleb last_digit (λ b high. (pos b -ℤ pos 128) +ℤ (pos 128 *ℤ high))
+pub sleb_digits : Digits IsSleb last_digit (λ b high. (pos b -ℤ pos 128) +ℤ (pos 128 *ℤ high))
 sleb_digits = record {
   some = λ v h. h;
   ends = λ b h. sleb_ends b h (nat_lt b 64) refl;
@@ -194,10 +194,10 @@ le_true a b h = by (int_le a b) refl
 true_le : (a b : ℤ) → int_le a b ≡ true → a ≤ℤ b
 true_le a b e = omega (arith, ints)
 
-between_true : (a b z : ℤ) → a ≤ℤ z → z ≤ℤ b → is_between a b z ≡ true
+pub between_true : (a b z : ℤ) → a ≤ℤ z → z ≤ℤ b → is_between a b z ≡ true
 between_true a b z h k = ap (λ t. t && int_le z b) (le_true a z h) ∙ le_true z b k
 
-true_between : (a b z : ℤ) → is_between a b z ≡ true → (a ≤ℤ z) × (z ≤ℤ b)
+pub true_between : (a b z : ℤ) → is_between a b z ≡ true → (a ≤ℤ z) × (z ≤ℤ b)
 true_between a b z e = let p = both_true (int_le a z) (int_le z b) e in (true_le a z p.0, true_le z b p.1)
 
 abbrev test33 : ℤ → Bool

@@ -12,90 +12,8 @@ use Rattle.candid_header.specs.declared.fault.Fault.{Fault}
 use Rattle.candid_header.specs.declared.fault.Fault.TheVariants.{Short, NumberLimit}
 use Rattle.candid_header.specs.Reading.{◌>>=◌, made, kept, digits_at, last_digit, is_between, leb_at, sleb_at}
 use Rattle.candid_header.proofs.Exact.{Exact, kept_exact}
-use Rattle.candid_header.proofs.Numbers.{AreBytes, Digits, Within, digits_exact}
+use Rattle.candid_header.proofs.Numbers.{AreBytes, Within, digits_exact, reads_ok, reads_short, reads_wide, leb_digits, sleb_digits, between_true, true_between}
 use Rattle.candid_read.specs.Parts.{u70_at, s70_at}
-
-module _ {V : Type 0} (Spells : List ℕ → V → Type 0) (last : ℕ → V) (more : ℕ → V → V) (wide : Fault) (d : Digits Spells last more) where
-  digits_short : (k : ℕ) (bytes : List ℕ) → AreBytes bytes → length bytes < k → NoneEnds bytes → digits_at wide last more k bytes ≡ Err Short
-  digits_short zero bytes all lt none = absurd (omega (arith, lt))
-  digits_short (suc k) [] all lt none = refl
-  digits_short (suc k) (b ∷ bs) all lt none =
-      ap (λ t. cond t (Ok (last b, bs)) (cond (nat_lt b 256) (made (more b) (digits_at wide last more k) bs) (Err wide))) (le-ltb b 128 none.0)
-      ∙ ap (λ t. cond t (made (more b) (digits_at wide last more k) bs) (Err wide)) (lt-ltb b 256 all.0)
-      ∙ ap (λ (s : Result (V × List ℕ) Fault). s >>= λ x. Ok (more b x.0, x.1)) (digits_short k bs all.1 (omega (arith, lt)) none.1)
-
-  digits_wide : (k : ℕ) (bytes : List ℕ) → k ≤ length bytes → NoneEnds (take k bytes) → digits_at wide last more k bytes ≡ Err wide
-  digits_wide zero bytes le none = refl
-  digits_wide (suc k) [] le none = absurd (omega (arith, le))
-  digits_wide (suc k) (b ∷ bs) le none =
-      ap (λ t. cond t (Ok (last b, bs)) (cond (nat_lt b 256) (made (more b) (digits_at wide last more k) bs) (Err wide))) (le-ltb b 128 none.0)
-      ∙ by (nat_lt b 256) (digits_at wide last more k bs) (digits_wide k bs (omega (arith, le)) none.1)
-    where
-      by : (t : Bool) (s : Result (V × List ℕ) Fault) → s ≡ Err wide → cond {A = Result (V × List ℕ) Fault} t (s >>= λ x. Ok (more b x.0, x.1)) (Err wide) ≡ Err wide
-      by false s e = refl
-      by true s e = ap (λ (s : Result (V × List ℕ) Fault). s >>= λ x. Ok (more b x.0, x.1)) e
-
-  module _ (Fits : V → Type 0) (k : ℕ) (test : V → Bool) (yes : (v : V) → Fits v → test v ≡ true) (fits : (v : V) → test v ≡ true → Fits v) where
-    front_is : (bytes : List ℕ) (n : V) (count : ℕ) → Begins Spells k bytes n count → digits_at wide last more k bytes ≡ Ok (n, drop count bytes)
-    front_is bytes n count b =
-        let e : digits_at wide last more k bytes ≡ Ok (n, b.rest) = ap (digits_at wide last more k) b.whole ∙ (digits_exact Spells last more wide d k).complete n b.front b.rest (omega (arith, b.counted, b.allowed), b.spells) in
-        let d : b.rest ≡ drop count bytes = sym (drop-append_seam b.front b.rest) ∙ ap (λ c. drop c (b.front ++ b.rest)) b.counted ∙ ap (λ l. drop count l) (sym b.whole) in
-        e ∙ ap (λ l. Ok (n, l)) d
-
-    reads_ok : (bytes : List ℕ) (n : V) (count : ℕ) → Reads Spells Fits k bytes (Ok (n, count)) → kept wide test (digits_at wide last more k) bytes ≡ Ok (n, drop count bytes)
-    reads_ok bytes n count h =
-        ap (λ (s : Result (V × List ℕ) Fault). s >>= λ x. cond (test x.0) (Ok x) (Err wide)) (front_is bytes n count h.0) ∙ ap (λ t. cond t (Ok (n, drop count bytes)) (Err wide)) (yes n h.1)
-
-    reads_short : (bytes : List ℕ) → AreBytes bytes → Reads Spells Fits k bytes (Err leb.Short) → kept wide test (digits_at wide last more k) bytes ≡ Err Short
-    reads_short bytes all h = ap (λ (s : Result (V × List ℕ) Fault). s >>= λ x. cond (test x.0) (Ok x) (Err wide)) (digits_short k bytes all h.0 h.1)
-
-    reads_wide : (bytes : List ℕ) → Reads Spells Fits k bytes (Err leb.TooWide) → kept wide test (digits_at wide last more k) bytes ≡ Err wide
-    reads_wide bytes (inl h) = ap (λ (s : Result (V × List ℕ) Fault). s >>= λ x. cond (test x.0) (Ok x) (Err wide)) (digits_wide k bytes h.0 h.1)
-    reads_wide bytes (inr h) =
-        ap (λ (s : Result (V × List ℕ) Fault). s >>= λ x. cond (test x.0) (Ok x) (Err wide)) (front_is bytes h.0 h.1 h.2) ∙ by (test h.0) refl
-      where
-        by : (t : Bool) → test h.0 ≡ t → cond {A = Result (V × List ℕ) Fault} t (Ok (h.0, drop h.1 bytes)) (Err wide) ≡ Err wide
-        by false e = refl
-        by true e = absurd (h.3 (fits h.0 e))
-
-leb_digits : Digits IsLeb (λ b. b) (λ b high. b - 128 + 128 * high)
-leb_digits = record {
-  some = λ v h. h;
-  ends = λ b h. (h, refl);
-  goes = λ b high front lo hi s. goes b high front lo hi s;
-  ended = λ b v h. (h.0, sym h.1);
-  gone = λ b c cs v h. (h.0, h.1, h.2, omega (arith, h.0, h.3), h.4);
-}
-  where
-    goes : (b high : ℕ) (front : List ℕ) → 128 ≤ b → b < 256 → IsLeb front high → IsLeb (b ∷ front) (b - 128 + 128 * high)
-    goes b high [] lo hi s = absurd s
-    goes b high (c ∷ cs) lo hi s = (lo, hi, high, omega arith, s)
-
-abbrev IsLast : ℕ → ℤ → Type 0
-IsLast b n = ((b < 64) × (n ≡ pos b)) ⊎ ((64 ≤ b) × (b < 128) × (n +ℤ pos 128 ≡ pos b))
-
-sleb_ends : (b : ℕ) → b < 128 → (t : Bool) → nat_lt b 64 ≡ t → IsLast b (cond t (pos b) (pos b -ℤ pos 128))
-sleb_ends b h true e = inl (ltb-true b 64 e, refl)
-sleb_ends b h false e = inr (ltb-false b 64 e, h, omega (arith, ints))
-
-sleb_ended : (b : ℕ) (v : ℤ) → IsLast b v → (b < 128) × (last_digit b ≡ v)
-sleb_ended b v (inl h) = (omega (arith, h.0), ap (λ t. cond t (pos b) (pos b -ℤ pos 128)) (lt-ltb b 64 h.0) ∙ sym h.1)
-sleb_ended b v (inr h) =
-    let e : pos b -ℤ pos 128 ≡ v = omega (arith, ints, h.2) in
-    (h.1, ap (λ t. cond t (pos b) (pos b -ℤ pos 128)) (le-ltb b 64 h.0) ∙ e)
-
-sleb_digits : Digits IsSleb last_digit (λ b high. (pos b -ℤ pos 128) +ℤ (pos 128 *ℤ high))
-sleb_digits = record {
-  some = λ v h. h;
-  ends = λ b h. sleb_ends b h (nat_lt b 64) refl;
-  goes = λ b high front lo hi s. goes b high front lo hi s;
-  ended = sleb_ended;
-  gone = λ b c cs v h. (h.0, h.1, h.2, omega (arith, ints, h.3), h.4);
-}
-  where
-    goes : (b : ℕ) (high : ℤ) (front : List ℕ) → 128 ≤ b → b < 256 → IsSleb front high → IsSleb (b ∷ front) ((pos b -ℤ pos 128) +ℤ (pos 128 *ℤ high))
-    goes b high [] lo hi s = absurd s
-    goes b high (c ∷ cs) lo hi s = (lo, hi, high, omega (arith, ints), s)
 
 -- an unsigned number of 70 bits
 abbrev pub IsU70 : ℕ → List ℕ → Type 0
@@ -131,27 +49,6 @@ IsS70 z bytes = padded.signed 70 bytes z
 
 abbrev more_s : ℕ → ℤ → ℤ
 more_s b high = (pos b -ℤ pos 128) +ℤ (pos 128 *ℤ high)
-
-both_true : (a b : Bool) → (a && b) ≡ true → (a ≡ true) × (b ≡ true)
-both_true true true e = (refl, refl)
-both_true true false e = cc
-both_true false b e = cc
-
-le_true : (a b : ℤ) → a ≤ℤ b → int_le a b ≡ true
-le_true a b h = by (int_le a b) refl
-  where
-    by : (t : Bool) → int_le a b ≡ t → int_le a b ≡ true
-    by true e = e
-    by false e = absurd (omega (arith, ints, h))
-
-true_le : (a b : ℤ) → int_le a b ≡ true → a ≤ℤ b
-true_le a b e = omega (arith, ints)
-
-pub between_true : (a b z : ℤ) → a ≤ℤ z → z ≤ℤ b → is_between a b z ≡ true
-between_true a b z h k = ap (λ t. t && int_le z b) (le_true a z h) ∙ le_true z b k
-
-pub true_between : (a b z : ℤ) → is_between a b z ≡ true → (a ≤ℤ z) × (z ≤ℤ b)
-true_between a b z e = let p = both_true (int_le a z) (int_le z b) e in (true_le a z p.0, true_le z b p.1)
 
 abbrev test_s70 : ℤ → Bool
 test_s70 = is_between (negsuc (2 ^ 69 - 1)) (pos (2 ^ 69 - 1))

@@ -16,4 +16,4 @@ pub use known::Known;
 pub use reference::{is_name, is_text};
 pub use skip::skip_known;
 pub use todo::{Goal, next, put, start};
-pub use values::{read_known, read_values};
+pub use values::read_known;

@@ -63,18 +63,3 @@ pub fn read_known<'a>(
     let ids = numbers(alloc, ids)?;
     read_parts(alloc, types, known, ids.as_slice(), bytes)
 }
-
-/// The same as `read_known`, where the types are not known yet.
-pub fn read_values<'a>(
-    alloc: Global,
-    types: &TypeGraph,
-    ids: &[TypeId],
-    bytes: &'a [u8],
-) -> Result<(Vec<Datum>, &'a [u8]), Stop>
-    ensures found { IfOk result (λ x. Takes (Read types.now ids.now (tree x.0.items)) bytes.now x.1.now) }
-    ensures only { (v : Values) (front rest : List ℕ) → Read types.now ids.now v front → bytes.now ≡ front ++ rest → Finds (λ x. (x.0.items, x.1.now)) result (flat v) rest }
-    ensures fault { IfFault result (λ f. Breaks types.now ids.now bytes.now f) }
-{
-    let known = Known::new(alloc, types)?;
-    read_known(alloc, types, &known, ids, bytes)
-}

@@ -1,7 +1,7 @@
 //! Values written by hand from the Candid specification, section "Memory".
 use crate::types::{add, define, fresh, list, tuple};
 use candid_header::{Fault, Stop};
-use candid_read::read_values;
+use candid_read::{Known, read_known};
 use mo_num::Kind;
 use mo_types::{Datum, Node, TypeGraph, TypeId};
 use std::alloc::Global;
@@ -14,7 +14,8 @@ fn read(
     id: TypeId,
     bytes: &[u8],
 ) -> Result<(usize, i128, usize), Stop> {
-    let (parts, rest) = read_values(alloc, types, &[id], bytes)?;
+    let known = Known::new(alloc, types)?;
+    let (parts, rest) = read_known(alloc, types, &known, &[id], bytes)?;
     let mut last = 0;
     for part in parts.as_slice() {
         last = match part {
