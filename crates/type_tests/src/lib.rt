@@ -1,7 +1,15 @@
 //! Tests of the graph of types and of subtyping.
 #![tactic(auto)]
 
+mod definitions;
 #[cfg(test)]
 mod graphs;
 #[cfg(test)]
 mod subtyping;
+pub mod tables;
+
+pub use definitions::{
+    calls_count_while_they_are_open, calls_have_owners, candid_types_of_types,
+    candid_values_of_values, failures_have_least_depths, five_hundred_calls_leave_no_room,
+    options_of_themselves_are_one_type, subtypes_by_their_parts,
+};

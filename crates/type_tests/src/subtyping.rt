@@ -1,219 +1,300 @@
 //! Questions by the language manual's rules, with the answers by hand.
-use mo_num::{Bytes, Kind, Sequence};
-use mo_subtype::{Pair, Verdict, subtype};
-use mo_types::{Field, Node, Sort, TypeGraph, TypeId};
+use crate::subtyping::Answer::{No, Yes};
+use crate::tables::{Form, Table, Types, add, at, define_at, types_of};
+use mo_num::Kind;
+use mo_subtype::{Pair, Pairs, Verdict, subtype};
+use mo_types::Sort;
 use std::alloc::Global;
-use std::test::Fail;
+use std::process::Abort;
 
-fn add(types: &mut TypeGraph, node: Node) -> Result<TypeId, Fail> {
-    Ok(types.intern(node).ok().ok_or("a type")?)
+/// An answer, without its list of pairs.
+#[derive(Clone, Copy, Debug, PartialEq, Eq)]
+enum Answer {
+    Yes,
+    /// The least depth at which it fails.
+    No(u32),
+    /// Memory is wanting, or a type is not there.
+    Unknown,
 }
 
-fn number(types: &mut TypeGraph, kind: Kind) -> Result<TypeId, Fail> {
-    add(types, Node::Number(kind))
+/// The places of two types, and whether the first is below the second.
+type Row = (usize, usize, Answer);
+
+fn told(verdict: &Verdict) -> Answer {
+    match verdict {
+        Verdict::Yes(_) => Answer::Yes,
+        Verdict::No(depth) => Answer::No(*depth),
+    }
 }
 
-fn fresh(types: &mut TypeGraph) -> Result<TypeId, Fail> {
-    Ok(types.fresh().ok().ok_or("a type")?)
-}
-
-fn define_option(types: &mut TypeGraph, id: TypeId, part: TypeId) -> Result<(), Fail> {
-    let defined = if types.is_open(id) {
-        types.define(id, Node::Opt(part)).is_ok()
-    } else {
-        false
+fn asked(alloc: Global, types: &Types, low: usize, high: usize) -> Answer {
+    let (Some(low), Some(high)) = (at(types, low), at(types, high)) else {
+        return Answer::Unknown;
     };
-    let done = if defined { Some(()) } else { None };
-    Ok(done.ok_or("room")?)
-}
-
-/// The least depth at which it fails, or none.
-fn failing(
-    alloc: Global,
-    types: &TypeGraph,
-    low: TypeId,
-    high: TypeId,
-) -> Result<Option<u32>, Fail> {
-    let verdict = subtype(alloc, types, low, high).ok().ok_or("memory")?;
-    Ok(match verdict {
-        Verdict::Yes(_) => None,
-        Verdict::No(depth) => Some(depth),
-    })
-}
-
-/// A field x, and a field y of the same kind after it.
-fn fields(
-    alloc: Global,
-    mutable: bool,
-    x: TypeId,
-    y: Option<TypeId>,
-) -> Result<Sequence<Field>, Fail> {
-    let mut fields = Vec::new(alloc);
-    let label = Bytes::from_vec(Vec::from_slice(alloc, b"x")?);
-    fields.push(Field {
-        label,
-        mutable,
-        part: x,
-    })?;
-    if let Some(part) = y {
-        let label = Bytes::from_vec(Vec::from_slice(alloc, b"y")?);
-        fields.push(Field {
-            label,
-            mutable,
-            part,
-        })?;
+    match subtype(alloc, &types.graph, low, high) {
+        Ok(verdict) => told(&verdict),
+        Err(_) => Answer::Unknown,
     }
-    Ok(Sequence::from_vec(fields))
 }
 
-fn object(
-    alloc: Global,
-    types: &mut TypeGraph,
-    mutable: bool,
-    x: TypeId,
-    y: Option<TypeId>,
-) -> Result<TypeId, Fail> {
-    let fields = fields(alloc, mutable, x, y)?;
-    add(types, Node::Object(fields))
+fn expect(rt: &impl Abort, alloc: Global, types: &Types, rows: &[Row]) {
+    for (low, high, wanted) in rows {
+        assert_eq!(rt; asked(alloc, types, *low, *high), *wanted, "{low} {high}");
+    }
 }
 
-fn variant(
-    alloc: Global,
-    types: &mut TypeGraph,
-    x: TypeId,
-    y: Option<TypeId>,
-) -> Result<TypeId, Fail> {
-    let tags = fields(alloc, false, x, y)?;
-    add(types, Node::Variant(tags))
+fn expect_of(rt: &impl Abort, alloc: Global, table: &Table, rows: &[Row]) {
+    match types_of(alloc, table) {
+        Some(types) => expect(rt, alloc, &types, rows),
+        None => assert!(rt; false),
+    }
 }
 
-fn function(
-    alloc: Global,
-    types: &mut TypeGraph,
-    sort: Sort,
-    parameter: TypeId,
-    answer: TypeId,
-) -> Result<TypeId, Fail> {
-    let parameters = Sequence::from_vec(Vec::from_slice(alloc, &[parameter])?);
-    let results = Sequence::from_vec(Vec::from_slice(alloc, &[answer])?);
-    add(types, Node::Func(sort, parameters, results))
-}
-
-#[test]
-fn recursive_options(rt: HostRuntime) -> Result<(), Fail> {
-    let alloc = rt.alloc();
-    let mut types = TypeGraph::new(alloc);
-    let a = fresh(&mut types)?;
-    let b = fresh(&mut types)?;
-    let inner = add(&mut types, Node::Opt(b))?;
-    define_option(&mut types, a, a)?;
-    define_option(&mut types, b, inner)?;
-    match subtype(alloc, &types, a, b).ok().ok_or("memory")? {
-        Verdict::Yes(pairs) => {
-            assert!(rt; pairs.contains(Pair { low: a, high: b }));
-            assert!(rt;
-                pairs.contains(Pair {
-                    low: a,
-                    high: inner
-                })
-            );
-            assert_eq!(rt; pairs.len(), 2);
+/// Whether these are the pairs of the list, in any order. None of them stands here twice.
+fn are_pairs(types: &Types, list: &Pairs, pairs: &[(usize, usize)]) -> bool {
+    for (low, high) in pairs {
+        let (Some(low), Some(high)) = (at(types, *low), at(types, *high)) else {
+            return false;
+        };
+        if !list.contains(Pair { low, high }) {
+            return false;
         }
-        Verdict::No(_) => assert!(rt; false),
     }
-    Ok(())
+    list.len() == pairs.len()
+}
+
+/// Whether the first pair is one of subtypes, by these pairs.
+fn is_shown(alloc: Global, types: &Types, pairs: &[(usize, usize)]) -> bool {
+    let Some((low, high)) = pairs.first() else {
+        return false;
+    };
+    let (Some(low), Some(high)) = (at(types, *low), at(types, *high)) else {
+        return false;
+    };
+    match subtype(alloc, &types.graph, low, high) {
+        Ok(Verdict::Yes(list)) => are_pairs(types, &list, pairs),
+        _ => false,
+    }
+}
+
+fn is_shown_in(alloc: Global, table: &Table, pairs: &[(usize, usize)]) -> bool {
+    match types_of(alloc, table) {
+        Some(types) => is_shown(alloc, &types, pairs),
+        None => false,
+    }
+}
+
+// `A = ?A` and `B = ?(?B)`, and the inner option of B.
+const OPTIONS: Table = Table {
+    forms: &[Form::Fresh, Form::Fresh, Form::Opt(1)],
+    definitions: &[(0, Form::Opt(0)), (1, Form::Opt(2))],
+};
+
+#[test]
+fn recursive_options(rt: HostRuntime) {
+    assert!(rt; is_shown_in(rt.alloc(), &OPTIONS, &[(0, 1), (0, 2)]));
+    assert!(rt; is_shown_in(rt.alloc(), &OPTIONS, &[(1, 0), (2, 0)]));
+}
+
+// `L = ?(Nat, L)`, `M = ?(Nat, ?(Nat, M))`, and `N = ?(Int, N)`.
+const LISTS: Table = Table {
+    forms: &[
+        Form::Number(Kind::Nat),
+        Form::Fresh,
+        Form::Fresh,
+        Form::Tuple(&[0, 1]),
+        Form::Tuple(&[0, 2]),
+        Form::Opt(4),
+        Form::Tuple(&[0, 5]),
+        Form::Number(Kind::Int),
+        Form::Fresh,
+        Form::Tuple(&[7, 8]),
+    ],
+    definitions: &[(1, Form::Opt(3)), (2, Form::Opt(6)), (8, Form::Opt(9))],
+};
+
+#[test]
+fn lists_unfolded_to_different_depths(rt: HostRuntime) {
+    assert!(rt;
+        is_shown_in(
+            rt.alloc(),
+            &LISTS,
+            &[(1, 2), (3, 6), (0, 0), (1, 5), (3, 4)]
+        )
+    );
+    expect_of(
+        &rt,
+        rt.alloc(),
+        &LISTS,
+        &[(2, 1, Yes), (2, 8, Yes), (8, 2, No(3))],
+    );
+}
+
+const SIMPLE: Table = Table {
+    forms: &[
+        Form::Number(Kind::Nat),
+        Form::Number(Kind::Int),
+        Form::Text,
+        Form::Null,
+        Form::Opt(0),
+        Form::Opt(1),
+    ],
+    definitions: &[],
+};
+
+#[test]
+fn numbers_and_options(rt: HostRuntime) {
+    let rows = &[
+        (0, 1, Yes),
+        (1, 0, No(1)),
+        (0, 2, No(1)),
+        (3, 4, Yes),
+        (4, 3, No(1)),
+        (4, 5, Yes),
+        (5, 4, No(2)),
+    ];
+    expect_of(&rt, rt.alloc(), &SIMPLE, rows);
+}
+
+// A field of Nat, that and one of Int, a field of Int, and the first and third with `var`.
+const RECORDS: Table = Table {
+    forms: &[
+        Form::Number(Kind::Nat),
+        Form::Number(Kind::Int),
+        Form::Object(&[("x", 0)]),
+        Form::Object(&[("x", 0), ("y", 1)]),
+        Form::Object(&[("x", 1)]),
+        Form::Cell(&[("x", 0)]),
+        Form::Cell(&[("x", 1)]),
+    ],
+    definitions: &[],
+};
+
+#[test]
+fn records(rt: HostRuntime) {
+    let rows = &[
+        (3, 2, Yes),
+        (2, 3, No(1)),
+        (3, 4, Yes),
+        (4, 2, No(2)),
+        (5, 5, Yes),
+        (5, 6, No(2)),
+        (6, 5, No(2)),
+        (5, 2, No(1)),
+    ];
+    expect_of(&rt, rt.alloc(), &RECORDS, rows);
+}
+
+// Variants of a tag of Nat, and of that one of Int and another; functions from Int to Nat, and from Nat to Int.
+const VARIANTS_AND_FUNCTIONS: Table = Table {
+    forms: &[
+        Form::Number(Kind::Nat),
+        Form::Number(Kind::Int),
+        Form::Variant(&[("x", 0)]),
+        Form::Variant(&[("x", 1), ("y", 0)]),
+        Form::Func(Sort::Local, &[1], &[0]),
+        Form::Func(Sort::Local, &[0], &[1]),
+        Form::Func(Sort::Query, &[0], &[1]),
+    ],
+    definitions: &[],
+};
+
+#[test]
+fn variants_and_functions(rt: HostRuntime) {
+    let rows = &[
+        (2, 3, Yes),
+        (3, 2, No(1)),
+        (4, 5, Yes),
+        (5, 4, No(2)),
+        (5, 6, No(1)),
+    ];
+    expect_of(&rt, rt.alloc(), &VARIANTS_AND_FUNCTIONS, rows);
+}
+
+/// Adds types that are not defined, up to so many types in all.
+fn add_fresh(alloc: Global, types: &mut Types, count: usize) -> bool {
+    for _ in types.ids.len()..count {
+        if !add(alloc, types, &Form::Fresh) {
+            return false;
+        }
+    }
+    true
+}
+
+/// Defines each type of a range as the option of the next one.
+fn define_links(alloc: Global, types: &mut Types, first: usize, last: usize) -> bool {
+    for place in first..last {
+        if define_at(alloc, types, place, &Form::Opt(place + 1)).is_err() {
+            return false;
+        }
+    }
+    true
+}
+
+/// Defines a type as the option of another.
+fn define_option(alloc: Global, types: &mut Types, place: usize, part: usize) -> bool {
+    define_at(alloc, types, place, &Form::Opt(part)).is_ok()
+}
+
+/// Nat, the option of itself, and then a chain of 4,000 options of which the last is that of Nat.
+fn add_chain(alloc: Global, types: &mut Types) -> bool {
+    add(alloc, types, &Form::Number(Kind::Nat))
+        && add_fresh(alloc, types, 4_002)
+        && define_option(alloc, types, 1, 1)
+        && define_links(alloc, types, 2, 4_001)
+        && define_option(alloc, types, 4_001, 0)
 }
 
 #[test]
-fn numbers_and_options(rt: HostRuntime) -> Result<(), Fail> {
-    let alloc = rt.alloc();
-    let mut types = TypeGraph::new(alloc);
-    let nat = number(&mut types, Kind::Nat)?;
-    let int = number(&mut types, Kind::Int)?;
-    let text = add(&mut types, Node::Text)?;
-    let null = add(&mut types, Node::Null)?;
-    let option = add(&mut types, Node::Opt(nat))?;
-    let wide = add(&mut types, Node::Opt(int))?;
-    for (low, high, want) in [
-        (nat, int, None),
-        (int, nat, Some(1)),
-        (nat, text, Some(1)),
-        (null, option, None),
-        (option, null, Some(1)),
-        (option, wide, None),
-        (wide, option, Some(2)),
+fn a_chain_of_4000_definitions(rt: HostRuntime) {
+    let mut types = Types::new(rt.alloc());
+    assert!(rt; add_chain(rt.alloc(), &mut types));
+    let rows = &[(2, 1, No(4_001)), (1, 2, No(4_001)), (2, 2, Yes)];
+    expect(&rt, rt.alloc(), &types, rows);
+}
+
+/// Two types that are options of themselves: the first through so many types, and the second through all others.
+fn add_cycles(alloc: Global, types: &mut Types, first: usize, all: usize) -> bool {
+    if first == 0 || first >= all {
+        return false;
+    }
+    add_fresh(alloc, types, all)
+        && define_links(alloc, types, 0, first - 1)
+        && define_option(alloc, types, first - 1, 0)
+        && define_links(alloc, types, first, all - 1)
+        && define_option(alloc, types, all - 1, first)
+}
+
+/// How many pairs show that the one is below the other.
+fn count(alloc: Global, types: &Types, low: usize, high: usize) -> Option<usize> {
+    let (Some(low), Some(high)) = (at(types, low), at(types, high)) else {
+        return None;
+    };
+    match subtype(alloc, &types.graph, low, high) {
+        Ok(Verdict::Yes(list)) => Some(list.len()),
+        _ => None,
+    }
+}
+
+fn count_of_cycles(alloc: Global, first: usize, all: usize) -> Option<usize> {
+    let mut types = Types::new(alloc);
+    if add_cycles(alloc, &mut types, first, all) {
+        count(alloc, &types, 0, first)
+    } else {
+        None
+    }
+}
+
+// The pairs come round at the least common multiple of both lengths.
+#[test]
+fn cycles_of_different_lengths(rt: HostRuntime) {
+    for (first, all, pairs) in &[
+        (1, 2, 1),
+        (1, 3, 2),
+        (2, 5, 6),
+        (4, 10, 12),
+        (1, 4_001, 4_000),
     ] {
-        assert_eq!(rt; failing(alloc, &types, low, high)?, want);
+        assert_eq!(rt; count_of_cycles(rt.alloc(), *first, *all), Some(*pairs));
     }
-    Ok(())
-}
-
-#[test]
-fn records(rt: HostRuntime) -> Result<(), Fail> {
-    let alloc = rt.alloc();
-    let mut types = TypeGraph::new(alloc);
-    let nat = number(&mut types, Kind::Nat)?;
-    let int = number(&mut types, Kind::Int)?;
-    let narrow = object(alloc, &mut types, false, nat, None)?;
-    let both = object(alloc, &mut types, false, nat, Some(int))?;
-    let wide = object(alloc, &mut types, false, int, None)?;
-    let cell = object(alloc, &mut types, true, nat, None)?;
-    let wide_cell = object(alloc, &mut types, true, int, None)?;
-    for (low, high, want) in [
-        (both, narrow, None),
-        (narrow, both, Some(1)),
-        (both, wide, None),
-        (wide, narrow, Some(2)),
-        (cell, cell, None),
-        (cell, wide_cell, Some(2)),
-        (wide_cell, cell, Some(2)),
-        (cell, narrow, Some(1)),
-    ] {
-        assert_eq!(rt; failing(alloc, &types, low, high)?, want);
-    }
-    Ok(())
-}
-
-#[test]
-fn variants_and_functions(rt: HostRuntime) -> Result<(), Fail> {
-    let alloc = rt.alloc();
-    let mut types = TypeGraph::new(alloc);
-    let nat = number(&mut types, Kind::Nat)?;
-    let int = number(&mut types, Kind::Int)?;
-    let one = variant(alloc, &mut types, nat, None)?;
-    let two = variant(alloc, &mut types, int, Some(nat))?;
-    let f = function(alloc, &mut types, Sort::Local, int, nat)?;
-    let g = function(alloc, &mut types, Sort::Local, nat, int)?;
-    let q = function(alloc, &mut types, Sort::Query, nat, int)?;
-    for (low, high, want) in [
-        (one, two, None),
-        (two, one, Some(1)),
-        (f, g, None),
-        (g, f, Some(2)),
-        (g, q, Some(1)),
-    ] {
-        assert_eq!(rt; failing(alloc, &types, low, high)?, want);
-    }
-    Ok(())
-}
-
-#[test]
-fn a_chain_of_4000_definitions(rt: HostRuntime) -> Result<(), Fail> {
-    let alloc = rt.alloc();
-    let mut types = TypeGraph::new(alloc);
-    let nat = number(&mut types, Kind::Nat)?;
-    let turn = fresh(&mut types)?;
-    define_option(&mut types, turn, turn)?;
-    let first = fresh(&mut types)?;
-    let mut last = first;
-    for _ in 1..4_000 {
-        let next = fresh(&mut types)?;
-        define_option(&mut types, last, next)?;
-        last = next;
-    }
-    define_option(&mut types, last, nat)?;
-    assert_eq!(rt; failing(alloc, &types, first, turn)?, Some(4_001));
-    assert_eq!(rt; failing(alloc, &types, turn, first)?, Some(4_001));
-    assert_eq!(rt; failing(alloc, &types, first, first)?, None);
-    Ok(())
 }

@@ -1,0 +1,206 @@
+-- The small examples.
+use Rattle.std.proofs.Common.{◌≡◌, ℕ, zero, suc, ◌<◌, ◌≤◌, Bool, true, false, List, [], ◌∷◌, ◌++◌, Option, Some, None, refl, sym, ap, subst, ◌∙◌, arith, inl, inr, if◌then◌else◌}
+use Rattle.mo_types.specs.Calls.{Call, Open, Answered, Lost, HasRoom, OwnsOpen, is_open_state, open_count, set_state, state_of}
+use Rattle.mo_types.specs.Sub.{Sub, IsSubtype}
+use Rattle.mo_subtype.specs.Certificate.{Fails}
+use Rattle.type_tests.specs.Examples.{Small, ANat, AText, AUnit, AnAny, AnInt, Asked, Inner, IntCell, Loop, Narrow, NatCell, Outcome, Pair, Single, Success, Twice, Wide, open_calls, small_head, two_calls}
+
+mutual
+  unfolding Sub
+
+  loop_twice : (n : ℕ) → Sub small_head n Loop Twice
+  loop_twice zero = tt
+  loop_twice (suc n) = inr (loop_inner n)
+
+  loop_inner : (n : ℕ) → Sub small_head n Loop Inner
+  loop_inner zero = tt
+  loop_inner (suc n) = inr (loop_twice n)
+
+mutual
+  unfolding Sub
+
+  twice_loop : (n : ℕ) → Sub small_head n Twice Loop
+  twice_loop zero = tt
+  twice_loop (suc n) = inr (inner_loop n)
+
+  inner_loop : (n : ℕ) → Sub small_head n Inner Loop
+  inner_loop zero = tt
+  inner_loop (suc n) = inr (twice_loop n)
+
+nat_int : (n : ℕ) → Sub small_head n ANat AnInt
+unfolding Sub
+nat_int zero = tt
+nat_int (suc n) = inr (inr (refl, refl))
+
+int_nat : Sub small_head 1 AnInt ANat → ⊥
+unfolding Sub
+int_nat (inl h) = cc
+int_nat (inr (inl h)) = cc
+int_nat (inr (inr h)) = let e = h.0 in cc
+
+unit_unit : (n : ℕ) → Sub small_head n AUnit AUnit
+unfolding Sub
+unit_unit zero = tt
+unit_unit (suc n) = inr tt
+
+pair_single : (n : ℕ) → Sub small_head n Pair Single
+unfolding Sub
+pair_single zero = tt
+pair_single (suc n) = inr (nat_int n, tt)
+
+success_outcome : (n : ℕ) → Sub small_head n Success Outcome
+unfolding Sub
+success_outcome zero = tt
+success_outcome (suc n) = inr (unit_unit n, tt)
+
+narrow_wide : (n : ℕ) → Sub small_head n Narrow Wide
+unfolding Sub
+narrow_wide zero = tt
+narrow_wide (suc n) = inr (refl, (nat_int n, tt), (nat_int n, tt))
+
+asked_any : (n : ℕ) → Sub small_head n Asked AnAny
+unfolding Sub
+asked_any zero = tt
+asked_any (suc n) = inl refl
+
+pub loop_below : IsSubtype small_head Loop Twice
+loop_below = record { by = loop_twice }
+
+pub loop_above : IsSubtype small_head Twice Loop
+loop_above = record { by = twice_loop }
+
+pub pair_below : IsSubtype small_head Pair Single
+pair_below = record { by = pair_single }
+
+pub success_below : IsSubtype small_head Success Outcome
+success_below = record { by = success_outcome }
+
+pub narrow_below : IsSubtype small_head Narrow Wide
+narrow_below = record { by = narrow_wide }
+
+pub asked_below : IsSubtype small_head Asked AnAny
+asked_below = record { by = asked_any }
+
+-- ---- failures
+
+at_zero : (t u : Small) (m : ℕ) → m < 1 → Sub small_head m t u
+unfolding Sub
+at_zero t u zero h = tt
+at_zero t u (suc m) h = absurd (omega arith)
+
+at_one : (t u : Small) → Sub small_head 1 t u → (m : ℕ) → m < 2 → Sub small_head m t u
+unfolding Sub
+at_one t u s zero h = tt
+at_one t u s (suc zero) h = s
+at_one t u s (suc (suc m)) h = absurd (omega arith)
+
+nat_text : Sub small_head 1 ANat AText → ⊥
+unfolding Sub
+nat_text (inl h) = cc
+nat_text (inr h) = h
+
+single_pair : Sub small_head 1 Single Pair → ⊥
+unfolding Sub
+single_pair (inl h) = cc
+single_pair (inr h) = h.1.0
+
+outcome_success : Sub small_head 1 Outcome Success → ⊥
+unfolding Sub
+outcome_success (inl h) = cc
+outcome_success (inr h) = h.0
+
+asked_wide : Sub small_head 1 Asked Wide → ⊥
+unfolding Sub
+asked_wide (inl h) = cc
+asked_wide (inr h) = let e = h.0 in cc
+
+nat_cell : Sub small_head 2 NatCell IntCell → ⊥
+unfolding Sub
+nat_cell (inl h) = cc
+nat_cell (inr h) = int_nat h.0.1
+
+int_cell : Sub small_head 2 IntCell NatCell → ⊥
+unfolding Sub
+int_cell (inl h) = cc
+int_cell (inr h) = int_nat h.0.0
+
+wide_narrow : Sub small_head 2 Wide Narrow → ⊥
+unfolding Sub
+wide_narrow (inl h) = cc
+wide_narrow (inr h) = int_nat h.1.0
+
+nat_cell_head : Sub small_head 1 NatCell IntCell
+unfolding Sub
+nat_cell_head = inr ((tt, tt), tt)
+
+int_cell_head : Sub small_head 1 IntCell NatCell
+unfolding Sub
+int_cell_head = inr ((tt, tt), tt)
+
+wide_head : Sub small_head 1 Wide Narrow
+unfolding Sub
+wide_head = inr (refl, (tt, tt), (tt, tt))
+
+pub text_fails : Fails small_head ANat AText 1
+text_fails = record { at = nat_text; less = at_zero ANat AText }
+
+pub single_fails : Fails small_head Single Pair 1
+single_fails = record { at = single_pair; less = at_zero Single Pair }
+
+pub outcome_fails : Fails small_head Outcome Success 1
+outcome_fails = record { at = outcome_success; less = at_zero Outcome Success }
+
+pub asked_fails : Fails small_head Asked Wide 1
+asked_fails = record { at = asked_wide; less = at_zero Asked Wide }
+
+pub nat_cell_fails : Fails small_head NatCell IntCell 2
+nat_cell_fails = record { at = nat_cell; less = at_one NatCell IntCell nat_cell_head }
+
+pub int_cell_fails : Fails small_head IntCell NatCell 2
+int_cell_fails = record { at = int_cell; less = at_one IntCell NatCell int_cell_head }
+
+pub wide_fails : Fails small_head Wide Narrow 2
+wide_fails = record { at = wide_narrow; less = at_one Wide Narrow wide_head }
+
+-- ---- calls
+
+abbrev owner_of : Option (Call ℕ ℕ) → ℕ
+owner_of None = 0
+owner_of (Some c) = c.owner
+
+pub first_owner : OwnsOpen two_calls 3
+first_owner = (0, record { owner = 3; results = 0; resumes = None; state = Open }, refl, refl, refl)
+
+pub second_owner : OwnsOpen (set_state two_calls 0 Lost) 4
+second_owner = (1, record { owner = 4; results = 0; resumes = Some 0; state = Open }, refl, refl, refl)
+
+pub no_owner : OwnsOpen two_calls 5 → ⊥
+no_owner (zero, c, there, own, is) = let e = ap owner_of there in absurd (omega arith)
+no_owner (suc zero, c, there, own, is) = let e = ap owner_of there in absurd (omega arith)
+no_owner (suc (suc n), c, there, own, is) = cc
+
+pub answered_owner : OwnsOpen (set_state two_calls 0 (Answered (Some 9))) 3 → ⊥
+answered_owner (zero, c, there, own, is) = let e = ap state_of there in cc
+answered_owner (suc zero, c, there, own, is) = let e = ap owner_of there in absurd (omega arith)
+answered_owner (suc (suc n), c, there, own, is) = cc
+
+one_longer : (b : Bool) (m n : ℕ) → m ≡ suc n → (if b then suc m else m) ≡ suc (if b then suc n else n)
+one_longer true m n h = ap (λ (k : ℕ). suc k) h
+one_longer false m n h = h
+
+abbrev third : Call ℕ ℕ
+third = record { owner = 3; results = 0; resumes = None; state = Open }
+
+one_more : (calls : List (Call ℕ ℕ)) → open_count (calls ++ third ∷ []) ≡ suc (open_count calls)
+one_more [] = refl
+one_more (d ∷ calls) = one_longer (is_open_state d.state) (open_count (calls ++ third ∷ [])) (open_count calls) (one_more calls)
+
+counted : (n : ℕ) → open_count (open_calls n) ≡ n
+counted zero = refl
+counted (suc n) = one_more (open_calls n) ∙ ap (λ (n : ℕ). suc n) (counted n)
+
+pub room_below : (n : ℕ) → n < 500 → HasRoom (open_calls n)
+room_below n h = subst (λ k. k < 500) (sym (counted n)) h
+
+pub no_room : (n : ℕ) → 500 ≤ n → HasRoom (open_calls n) → ⊥
+no_room n h r = let k : n < 500 = subst (λ k. k < 500) (counted n) r in absurd (omega arith)

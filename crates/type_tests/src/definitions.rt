@@ -1,0 +1,78 @@
+//! Small examples of the definitions of types, computed by the checker.
+ghost use Rattle.std.specs.Prelude.{◌≡◌, ◌<◌, ◌≤◌, ℕ, [], ◌∷◌, Some, slice_get};
+ghost use Rattle.mo_types.specs.declared.wire.Plain.TheVariants as plain;
+ghost use Rattle.mo_types.specs.declared.wire.Ref.TheVariants.{Just, Of};
+ghost use Rattle.mo_types.specs.declared.wire.Wire.TheVariants.{Func, Record, Simple, Variant, Vec};
+ghost use Rattle.mo_types.specs.Calls.{Answered, HasRoom, IsOpen, Lost, OwnsOpen, open_count, set_state, state_of};
+ghost use Rattle.mo_types.specs.Form.{form};
+ghost use Rattle.mo_types.specs.Sub.{IsSubtype};
+ghost use Rattle.mo_types.specs.Wire.{wire};
+ghost use Rattle.mo_subtype.specs.Certificate.{Fails};
+ghost use Rattle.type_tests.specs.Examples.{ABlob, ANat, AText, AUnit, AnAny, AnInt, Asked, Inner, IntCell, Loop, Narrow, NatCell, Outcome, Pair, Single, Success, Twice, Wide, entry, forms, open_calls, small_head, two_calls, values};
+
+/// `type A = ?A` and `type B = ?(?B)` are subtypes of each other.
+#[tactic(auto, using(crate::proofs::Examples::loop_below, crate::proofs::Examples::loop_above))]
+pub fn options_of_themselves_are_one_type()
+    ensures below { IsSubtype small_head Loop Twice }
+    ensures above { IsSubtype small_head Twice Loop }
+{}
+
+/// Nat and Text fail at once; objects with `var` fields of Nat and of Int fail at these.
+#[tactic(auto, using(crate::proofs::Examples::text_fails, crate::proofs::Examples::nat_cell_fails, crate::proofs::Examples::int_cell_fails))]
+pub fn failures_have_least_depths()
+    ensures text { Fails small_head ANat AText 1 }
+    ensures cells { Fails small_head NatCell IntCell 2 }
+    ensures cells_back { Fails small_head IntCell NatCell 2 }
+{}
+
+/// Objects in width and depth, variants with fewer tags, and functions that take more and give less.
+#[tactic(auto, using(crate::proofs::Examples::pair_below, crate::proofs::Examples::single_fails, crate::proofs::Examples::success_below, crate::proofs::Examples::outcome_fails, crate::proofs::Examples::narrow_below, crate::proofs::Examples::wide_fails, crate::proofs::Examples::asked_fails, crate::proofs::Examples::asked_below))]
+pub fn subtypes_by_their_parts()
+    ensures objects { IsSubtype small_head Pair Single }
+    ensures other_objects { Fails small_head Single Pair 1 }
+    ensures variants { IsSubtype small_head Success Outcome }
+    ensures other_variants { Fails small_head Outcome Success 1 }
+    ensures functions { IsSubtype small_head Narrow Wide }
+    ensures other_functions { Fails small_head Wide Narrow 2 }
+    ensures sorts { Fails small_head Asked Wide 1 }
+    ensures any { IsSubtype small_head Asked AnAny }
+{}
+
+/// Blobs, tags in the order of their numbers, of which () stands as null, and queries.
+pub fn candid_types_of_types()
+    ensures blob { wire small_head (Of ABlob) ≡ Vec (Just plain.Nat8) }
+    ensures any { wire small_head (Of AnAny) ≡ Simple plain.Reserved }
+    ensures object { wire small_head (Of Pair) ≡ Record (entry 120 (Of ANat) ∷ entry 121 (Of AText) ∷ []) }
+    ensures variant { wire small_head (Of Outcome) ≡ Variant (entry 24860 (Just plain.Null) ∷ entry 5048165 (Of AText) ∷ []) }
+    ensures query { wire small_head (Of Asked) ≡ Func [] (Of ANat ∷ []) (1 ∷ []) }
+{}
+
+/// The bytes of a Blob one by one, and null where () stands under a tag or at Any.
+pub fn candid_values_of_values()
+    ensures { form small_head (ABlob ∷ Outcome ∷ AnAny ∷ []) values ≡ forms }
+{}
+
+/// Calls count while they are open.
+pub fn calls_count_while_they_are_open()
+    ensures both { open_count two_calls ≡ 2 }
+    ensures answered { open_count (set_state two_calls 0 (Answered (Some 9))) ≡ 1 }
+    ensures kept { state_of (slice_get (set_state two_calls 0 (Answered (Some 9))) 0) ≡ Some (Answered (Some 9)) }
+    ensures lost { open_count (set_state two_calls 1 Lost) ≡ 1 }
+    ensures other { IsOpen (set_state two_calls 1 Lost) 0 }
+{}
+
+/// An owner has an open call until it is answered or lost.
+#[tactic(auto, using(crate::proofs::Examples::first_owner, crate::proofs::Examples::answered_owner, crate::proofs::Examples::second_owner, crate::proofs::Examples::no_owner))]
+pub fn calls_have_owners()
+    ensures own { OwnsOpen two_calls 3 }
+    ensures answered { OwnsOpen (set_state two_calls 0 (Answered (Some 9))) 3 → ⊥ }
+    ensures others { OwnsOpen (set_state two_calls 0 Lost) 4 }
+    ensures nobody { OwnsOpen two_calls 5 → ⊥ }
+{}
+
+/// There is room below 500 open calls.
+#[tactic(auto, using(crate::proofs::Examples::room_below, crate::proofs::Examples::no_room))]
+pub fn five_hundred_calls_leave_no_room()
+    ensures room { (n : ℕ) → n < 500 → HasRoom (open_calls n) }
+    ensures full { (n : ℕ) → 500 ≤ n → HasRoom (open_calls n) → ⊥ }
+{}
