@@ -1,11 +1,11 @@
 //! Modules at the limits, and one past.
 use crate::judgement::{Judgement, judge};
+use crate::writing::is_written_as;
 use mo_num::{Bytes, Memory, leb_write};
 use std::alloc::Global;
 use std::process::Abort;
-use std::test::Fail;
 use wasm_read::{ReadFault, read};
-use wasm_tree::{Rule, write};
+use wasm_tree::Rule;
 
 const HEADER: &[u8] = b"\0asm\x01\0\0\0";
 
@@ -16,159 +16,195 @@ fn section(out: &mut Bytes, number: u8, contents: &[u8]) -> Result<(), Memory> {
     out.extend(contents)
 }
 
-// A vector of so many copies of an item.
-fn copies(alloc: Global, count: u32, item: &[u8]) -> Result<Bytes, Memory> {
-    let mut out = Bytes::new(alloc);
-    leb_write(count as u128, &mut out)?;
+// Puts a vector of so many copies of an item.
+fn put_copies(out: &mut Bytes, count: u32, item: &[u8]) -> Result<(), Memory> {
+    leb_write(count as u128, out)?;
     for _ in 0..count {
         out.extend(item)?;
     }
-    Ok(out)
+    Ok(())
 }
 
-// So many functions that do nothing.
-fn functions(alloc: Global, count: u32) -> Result<Bytes, Memory> {
-    let mut out = Bytes::new(alloc);
+// Adds a section that is a vector of so many copies of an item.
+fn section_of_copies(
+    alloc: Global,
+    out: &mut Bytes,
+    number: u8,
+    count: u32,
+    item: &[u8],
+) -> Result<(), Memory> {
+    let mut contents = Bytes::new(alloc);
+    put_copies(&mut contents, count, item)?;
+    section(out, number, contents.as_slice())
+}
+
+fn put_size(out: &mut Bytes, kind: &[u8], size: u32) -> Result<(), Memory> {
+    out.extend(kind)?;
+    leb_write(size as u128, out)
+}
+
+// Adds a section of these bytes and a size.
+fn section_of_size(
+    alloc: Global,
+    out: &mut Bytes,
+    number: u8,
+    kind: &[u8],
+    size: u32,
+) -> Result<(), Memory> {
+    let mut contents = Bytes::new(alloc);
+    put_size(&mut contents, kind, size)?;
+    section(out, number, contents.as_slice())
+}
+
+// Puts so many functions that do nothing.
+fn put_functions(alloc: Global, out: &mut Bytes, count: u32) -> Result<(), Memory> {
     out.extend(HEADER)?;
-    section(&mut out, 1, &[1, 0x60, 0, 0])?;
-    section(&mut out, 3, copies(alloc, count, &[0])?.as_slice())?;
-    section(
-        &mut out,
-        10,
-        copies(alloc, count, &[2, 0, 0x0b])?.as_slice(),
-    )?;
-    Ok(out)
+    section(out, 1, &[1, 0x60, 0, 0])?;
+    section_of_copies(alloc, out, 3, count, &[0])?;
+    section_of_copies(alloc, out, 10, count, &[2, 0, 0x0b])
 }
 
-// So many globals, each an i32 of 0.
-fn globals(alloc: Global, count: u32) -> Result<Bytes, Memory> {
-    let mut out = Bytes::new(alloc);
+// Puts so many globals, each an i32 of 0.
+fn put_globals(alloc: Global, out: &mut Bytes, count: u32) -> Result<(), Memory> {
     out.extend(HEADER)?;
-    section(
-        &mut out,
-        6,
-        copies(alloc, count, &[0x7f, 0, 0x41, 0, 0x0b])?.as_slice(),
-    )?;
-    Ok(out)
+    section_of_copies(alloc, out, 6, count, &[0x7f, 0, 0x41, 0, 0x0b])
 }
 
-// A memory of so many pages.
-fn memory(alloc: Global, pages: u32) -> Result<Bytes, Memory> {
-    let mut out = Bytes::new(alloc);
+// Puts a memory of so many pages.
+fn put_memory(alloc: Global, out: &mut Bytes, pages: u32) -> Result<(), Memory> {
     out.extend(HEADER)?;
-    let mut limits = Bytes::new(alloc);
-    limits.extend(&[1, 0])?;
-    leb_write(pages as u128, &mut limits)?;
-    section(&mut out, 5, limits.as_slice())?;
-    Ok(out)
+    section_of_size(alloc, out, 5, &[1, 0], pages)
 }
 
-// A table of so many entries.
-fn table(alloc: Global, entries: u32) -> Result<Bytes, Memory> {
-    let mut out = Bytes::new(alloc);
+// Puts a table of so many entries.
+fn put_table(alloc: Global, out: &mut Bytes, entries: u32) -> Result<(), Memory> {
     out.extend(HEADER)?;
-    let mut limits = Bytes::new(alloc);
-    limits.extend(&[1, 0x70, 0])?;
-    leb_write(entries as u128, &mut limits)?;
-    section(&mut out, 4, limits.as_slice())?;
-    Ok(out)
+    section_of_size(alloc, out, 4, &[1, 0x70, 0], entries)
 }
 
-// A function of so many blocks, each in the one before.
-fn nested(alloc: Global, blocks: u32) -> Result<Bytes, Memory> {
-    let mut body = Bytes::new(alloc);
-    body.push(0)?;
-    for _ in 0..blocks {
-        body.extend(&[0x02, 0x40])?;
+/// What a module has so many of.
+#[derive(Clone, Copy)]
+enum Part {
+    Functions,
+    Globals,
+    Entries,
+    Pages,
+}
+
+fn put_module(alloc: Global, out: &mut Bytes, part: Part, count: u32) -> Result<(), Memory> {
+    match part {
+        Part::Functions => put_functions(alloc, out, count),
+        Part::Globals => put_globals(alloc, out, count),
+        Part::Entries => put_table(alloc, out, count),
+        Part::Pages => put_memory(alloc, out, count),
     }
-    for _ in 0..blocks {
-        body.push(0x0b)?;
-    }
-    body.push(0x0b)?;
-    let mut code = Bytes::new(alloc);
-    code.push(1)?;
-    leb_write(body.len() as u128, &mut code)?;
-    code.extend(body.as_slice())?;
+}
+
+fn judge_count(alloc: Global, part: Part, count: u32) -> Judgement {
     let mut out = Bytes::new(alloc);
-    out.extend(HEADER)?;
-    section(&mut out, 1, &[1, 0x60, 0, 0])?;
-    section(&mut out, 3, &[1, 0])?;
-    section(&mut out, 10, code.as_slice())?;
-    Ok(out)
+    match put_module(alloc, &mut out, part, count) {
+        Ok(()) => judge(alloc, out.as_slice()),
+        Err(_) => Judgement::NoMemory,
+    }
 }
 
 const TOO_MANY: Judgement = Judgement::Broken(None, Rule::Size);
 
-fn judge_functions(alloc: Global, count: u32) -> Result<Judgement, Memory> {
-    let bytes = functions(alloc, count)?;
-    Ok(judge(alloc, bytes.as_slice()))
-}
+const COUNTS: &[(Part, u32, Judgement)] = &[
+    (Part::Functions, 100_000, Judgement::Valid),
+    (Part::Functions, 100_001, TOO_MANY),
+    (Part::Globals, 10_000, Judgement::Valid),
+    (Part::Globals, 10_001, TOO_MANY),
+    (Part::Entries, 100_000, Judgement::Valid),
+    (Part::Entries, 100_001, TOO_MANY),
+];
 
-fn judge_globals(alloc: Global, count: u32) -> Result<Judgement, Memory> {
-    let bytes = globals(alloc, count)?;
-    Ok(judge(alloc, bytes.as_slice()))
-}
+const PAGES: &[(Part, u32, Judgement)] = &[
+    (Part::Pages, 65_536, Judgement::Valid),
+    (Part::Pages, 65_537, Judgement::Broken(None, Rule::Memory)),
+];
 
-fn judge_table(alloc: Global, entries: u32) -> Result<Judgement, Memory> {
-    let bytes = table(alloc, entries)?;
-    Ok(judge(alloc, bytes.as_slice()))
-}
-
-fn judge_memory(alloc: Global, pages: u32) -> Result<Judgement, Memory> {
-    let bytes = memory(alloc, pages)?;
-    Ok(judge(alloc, bytes.as_slice()))
-}
-
-#[test]
-fn counts(rt: HostRuntime) -> Result<(), Fail> {
-    let alloc = rt.alloc();
-    assert_eq!(rt; judge_functions(alloc, 100_000)?, Judgement::Valid);
-    assert_eq!(rt; judge_functions(alloc, 100_001)?, TOO_MANY);
-    assert_eq!(rt; judge_globals(alloc, 10_000)?, Judgement::Valid);
-    assert_eq!(rt; judge_globals(alloc, 10_001)?, TOO_MANY);
-    assert_eq!(rt; judge_table(alloc, 100_000)?, Judgement::Valid);
-    assert_eq!(rt; judge_table(alloc, 100_001)?, TOO_MANY);
-    Ok(())
+fn expect(rt: &impl Abort, alloc: Global, rows: &[(Part, u32, Judgement)]) {
+    for (part, count, wanted) in rows {
+        let judgement = judge_count(alloc, *part, *count);
+        assert!(rt; judgement == *wanted, "{count}");
+    }
 }
 
 #[test]
-fn pages(rt: HostRuntime) -> Result<(), Fail> {
-    let alloc = rt.alloc();
-    assert_eq!(rt; judge_memory(alloc, 65_536)?, Judgement::Valid);
-    let more = Judgement::Broken(None, Rule::Memory);
-    assert_eq!(rt; judge_memory(alloc, 65_537)?, more);
-    Ok(())
+fn counts(rt: HostRuntime) {
+    expect(&rt, rt.alloc(), COUNTS);
 }
 
 #[test]
-fn bytes(rt: HostRuntime) -> Result<(), Fail> {
-    let alloc = rt.alloc();
-    let mut longest = vec![in alloc; 0; 67_108_864]?;
-    assert_eq!(rt;
-        judge(alloc, longest.as_slice()),
-        Judgement::Unreadable(ReadFault::NotWasm)
-    );
-    longest.push(0)?;
-    assert_eq!(rt;
-        judge(alloc, longest.as_slice()),
-        Judgement::Unreadable(ReadFault::TooLarge)
-    );
-    Ok(())
+fn pages(rt: HostRuntime) {
+    expect(&rt, rt.alloc(), PAGES);
 }
 
-fn expect_written(rt: &impl Abort, alloc: Global, bytes: &[u8]) -> Result<(), Fail> {
-    let Ok(tree) = read(alloc, bytes) else {
-        return Err(Fail::from("not read"));
-    };
-    let written = write(alloc, &tree)?;
-    assert!(rt; written.as_slice() == bytes);
-    Ok(())
+fn judge_zeros(alloc: Global, count: usize) -> Judgement {
+    let mut zeros = Vec::new(alloc);
+    match zeros.resize(count, 0) {
+        Ok(()) => judge(alloc, zeros.as_slice()),
+        Err(_) => Judgement::NoMemory,
+    }
 }
 
 #[test]
-fn a_million_blocks(rt: HostRuntime) -> Result<(), Fail> {
+fn bytes(rt: HostRuntime) {
+    let longest = judge_zeros(rt.alloc(), 67_108_864);
+    assert!(rt; longest == Judgement::Unreadable(ReadFault::NotWasm));
+    let longer = judge_zeros(rt.alloc(), 67_108_865);
+    assert!(rt; longer == Judgement::Unreadable(ReadFault::TooLarge));
+}
+
+// Puts the code of a function of so many blocks, each in the one before.
+fn put_blocks(out: &mut Bytes, blocks: u32) -> Result<(), Memory> {
+    out.push(0)?;
+    for _ in 0..blocks {
+        out.extend(&[0x02, 0x40])?;
+    }
+    for _ in 0..blocks {
+        out.push(0x0b)?;
+    }
+    out.push(0x0b)
+}
+
+// Puts a vector of one code.
+fn put_code(out: &mut Bytes, body: &[u8]) -> Result<(), Memory> {
+    out.push(1)?;
+    leb_write(body.len() as u128, out)?;
+    out.extend(body)
+}
+
+// Adds the section of the codes.
+fn section_of_blocks(alloc: Global, out: &mut Bytes, blocks: u32) -> Result<(), Memory> {
+    let mut body = Bytes::new(alloc);
+    put_blocks(&mut body, blocks)?;
+    let mut code = Bytes::new(alloc);
+    put_code(&mut code, body.as_slice())?;
+    section(out, 10, code.as_slice())
+}
+
+fn put_nested(alloc: Global, out: &mut Bytes, blocks: u32) -> Result<(), Memory> {
+    out.extend(HEADER)?;
+    section(out, 1, &[1, 0x60, 0, 0])?;
+    section(out, 3, &[1, 0])?;
+    section_of_blocks(alloc, out, blocks)
+}
+
+// Whether the bytes are read as a module that is written as them.
+fn is_read_and_written(alloc: Global, bytes: &[u8]) -> bool {
+    match read(alloc, bytes) {
+        Ok(tree) => is_written_as(alloc, &tree, bytes),
+        Err(_) => false,
+    }
+}
+
+#[test]
+fn a_million_blocks(rt: HostRuntime) {
     let alloc = rt.alloc();
-    let bytes = nested(alloc, 1_000_000)?;
-    assert_eq!(rt; judge(alloc, bytes.as_slice()), Judgement::Valid);
-    expect_written(&rt, alloc, bytes.as_slice())
+    let mut bytes = Bytes::new(alloc);
+    assert!(rt; put_nested(alloc, &mut bytes, 1_000_000).is_ok());
+    assert!(rt; judge(alloc, bytes.as_slice()) == Judgement::Valid);
+    assert!(rt; is_read_and_written(alloc, bytes.as_slice()));
 }

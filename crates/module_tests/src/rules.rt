@@ -1,7 +1,7 @@
 //! Modules and the rules that they break.
 use mo_num::{Bytes, Memory, Sequence};
 use std::alloc;
-use std::test::Fail;
+use std::process::Abort;
 use wasm_tree::{
     BinaryOperator, Export, ExportKind, Function, FunctionType, Global, GlobalType, Import,
     ImportKind, Limits, LoadKind, Locals, MemoryArgument, Module, Op, Plain, Rule, ValueType,
@@ -33,20 +33,21 @@ fn function_type(
     })
 }
 
+const LOCALS: &[Locals] = &[
+    Locals {
+        count: 1,
+        kind: I32,
+    },
+    Locals {
+        count: 2,
+        kind: I64,
+    },
+];
+
 fn function(alloc: alloc::Global, signature: u32, ops: &[Op]) -> Result<Function, Memory> {
-    let locals = vec![in alloc;
-        Locals {
-            count: 1,
-            kind: I32
-        },
-        Locals {
-            count: 2,
-            kind: I64
-        },
-    ]?;
     Ok(Function {
         signature,
-        locals: Sequence::from_vec(locals),
+        locals: Sequence::from_vec(Vec::from_slice(alloc, LOCALS)?),
         body: Sequence::from_vec(Vec::from_slice(alloc, ops)?),
     })
 }
@@ -111,24 +112,49 @@ fn exports(alloc: alloc::Global, first: &[u8], second: &[u8]) -> Result<Sequence
     Ok(Sequence::from_vec(vec![in alloc; one, two]?))
 }
 
-// A module with an imported function, a function without instructions, and one with these.
-fn module_of(alloc: alloc::Global, ops: &[Op]) -> Result<Module, Memory> {
-    Ok(Module {
-        types: types(alloc)?,
-        imports: imports(alloc, b"msg_reply")?,
-        functions: functions(alloc, ops)?,
-        tables: sizes(alloc, 1, None)?,
-        memories: sizes(alloc, 1, Some(65_536))?,
-        globals: globals(alloc)?,
-        exports: exports(alloc, b"canister_query f", b"memory")?,
+fn empty(alloc: alloc::Global) -> Module {
+    Module {
+        types: Sequence::new(alloc),
+        imports: Sequence::new(alloc),
+        functions: Sequence::new(alloc),
+        tables: Sequence::new(alloc),
+        memories: Sequence::new(alloc),
+        globals: Sequence::new(alloc),
+        exports: Sequence::new(alloc),
         start: Some(0),
         elements: Sequence::new(alloc),
         segments: Sequence::new(alloc),
-    })
+    }
 }
 
-fn is_valid(alloc: alloc::Global, ops: &[Op]) -> Result<bool, Memory> {
-    Ok(validate(alloc, module_of(alloc, ops)?).is_ok())
+fn put_code(alloc: alloc::Global, tree: &mut Module, ops: &[Op]) -> Result<(), Memory> {
+    tree.types = types(alloc)?;
+    tree.imports = imports(alloc, b"msg_reply")?;
+    tree.functions = functions(alloc, ops)?;
+    Ok(())
+}
+
+fn put_stores(alloc: alloc::Global, tree: &mut Module) -> Result<(), Memory> {
+    tree.tables = sizes(alloc, 1, None)?;
+    tree.memories = sizes(alloc, 1, Some(65_536))?;
+    tree.globals = globals(alloc)?;
+    tree.exports = exports(alloc, b"canister_query f", b"memory")?;
+    Ok(())
+}
+
+// A module with an imported function, a function without instructions, and one with these.
+fn module_of(alloc: alloc::Global, ops: &[Op]) -> Result<Module, Memory> {
+    let mut tree = empty(alloc);
+    put_code(alloc, &mut tree, ops)?;
+    put_stores(alloc, &mut tree)?;
+    Ok(tree)
+}
+
+fn is_valid(alloc: alloc::Global, ops: &[Op]) -> bool {
+    match module_of(alloc, ops) {
+        Ok(tree) => validate(alloc, tree).is_ok(),
+        Err(_) => false,
+    }
 }
 
 fn answers(alloc: alloc::Global, tree: Module, function: Option<u32>, rule: Rule) -> bool {
@@ -139,92 +165,133 @@ fn answers(alloc: alloc::Global, tree: Module, function: Option<u32>, rule: Rule
 }
 
 // Whether the rule is broken in the body of function 2.
-fn breaks(alloc: alloc::Global, ops: &[Op], rule: Rule) -> Result<bool, Memory> {
-    Ok(answers(alloc, module_of(alloc, ops)?, Some(2), rule))
+fn breaks(alloc: alloc::Global, ops: &[Op], rule: Rule) -> bool {
+    match module_of(alloc, ops) {
+        Ok(tree) => answers(alloc, tree, Some(2), rule),
+        Err(_) => false,
+    }
 }
 
-fn accessed(align: u32) -> Op {
-    Op::Plain(Plain::Load(LoadKind::I64From16U, MemoryArgument { align, offset: 0 }))
+fn expect_broken(rt: &impl Abort, alloc: alloc::Global, rows: &[(&[Op], Rule)]) {
+    for (ops, rule) in rows {
+        assert!(rt; breaks(alloc, ops, *rule), "{ops:?}");
+    }
+}
+
+// A load of two bytes.
+const ALIGNED: Op = Op::Plain(Plain::Load(
+    LoadKind::I64From16U,
+    MemoryArgument {
+        align: 1,
+        offset: 0,
+    },
+));
+
+const TOO_ALIGNED: Op = Op::Plain(Plain::Load(
+    LoadKind::I64From16U,
+    MemoryArgument {
+        align: 2,
+        offset: 0,
+    },
+));
+
+const VALID: &[&[Op]] = &[
+    &[ZERO, ALIGNED, DROP],
+    &[Op::Loop(Some(I32)), ZERO, ZERO, Op::BrIf(0), Op::End, DROP],
+    &[ZERO, LONG, ZERO, Op::CallIndirect(1), DROP],
+    &[ZERO, Op::If(Some(I64)), LONG, Op::Else, LONG, Op::End, DROP],
+];
+
+#[test]
+fn valid_bodies(rt: HostRuntime) {
+    for ops in VALID {
+        assert!(rt; is_valid(rt.alloc(), ops), "{ops:?}");
+    }
+}
+
+const DEAD: &[(&[Op], Rule)] = &[
+    (&[Op::Unreachable, SELECT], Rule::Result),
+    (&[Op::Unreachable, LONG, ADD, DROP], Rule::Operand),
+];
+
+#[test]
+fn dead_code(rt: HostRuntime) {
+    assert!(rt; is_valid(rt.alloc(), &[Op::Unreachable, SELECT, DROP]));
+    expect_broken(&rt, rt.alloc(), DEAD);
+}
+
+const INDICES_AND_LABELS: &[(&[Op], Rule)] = &[
+    (&[Op::Plain(Plain::LocalGet(3)), DROP], Rule::Index),
+    (&[Op::Call(3)], Rule::Index),
+    (&[Op::Br(1)], Rule::Label),
+    (&[ZERO, TOO_ALIGNED, DROP], Rule::Align),
+    (&[ZERO, Op::Plain(Plain::GlobalSet(0))], Rule::Mutable),
+];
+
+#[test]
+fn indices_and_labels(rt: HostRuntime) {
+    expect_broken(&rt, rt.alloc(), INDICES_AND_LABELS);
+}
+
+const OPERANDS_AND_RESULTS: &[(&[Op], Rule)] = &[
+    (&[DROP], Rule::Operand),
+    (&[ZERO], Rule::Result),
+    (
+        &[ZERO, Op::If(Some(I32)), ZERO, Op::End, DROP],
+        Rule::Result,
+    ),
+    (&[Op::End], Rule::Result),
+];
+
+#[test]
+fn operands_and_results(rt: HostRuntime) {
+    expect_broken(&rt, rt.alloc(), OPERANDS_AND_RESULTS);
+}
+
+fn with_memory(alloc: alloc::Global, min: u32) -> Result<Module, Memory> {
+    let mut tree = module_of(alloc, &[])?;
+    tree.memories = sizes(alloc, min, None)?;
+    Ok(tree)
+}
+
+fn with_table(alloc: alloc::Global, min: u32) -> Result<Module, Memory> {
+    let mut tree = module_of(alloc, &[])?;
+    tree.tables = sizes(alloc, min, None)?;
+    Ok(tree)
+}
+
+fn with_exports(alloc: alloc::Global, first: &[u8], second: &[u8]) -> Result<Module, Memory> {
+    let mut tree = module_of(alloc, &[])?;
+    tree.exports = exports(alloc, first, second)?;
+    Ok(tree)
+}
+
+fn with_import(alloc: alloc::Global, name: &[u8]) -> Result<Module, Memory> {
+    let mut tree = module_of(alloc, &[])?;
+    tree.imports = imports(alloc, name)?;
+    Ok(tree)
+}
+
+// Whether the rule is broken in no function.
+fn is_broken(alloc: alloc::Global, tree: Result<Module, Memory>, rule: Rule) -> bool {
+    match tree {
+        Ok(tree) => answers(alloc, tree, None, rule),
+        Err(_) => false,
+    }
 }
 
 #[test]
-fn valid_bodies(rt: HostRuntime) -> Result<(), Fail> {
+fn stores(rt: HostRuntime) {
     let a = rt.alloc();
-    assert!(rt; is_valid(a, &[ZERO, accessed(1), DROP])?);
-    assert!(rt;
-        is_valid(
-            a,
-            &[Op::Loop(Some(I32)), ZERO, ZERO, Op::BrIf(0), Op::End, DROP]
-        )?
-    );
-    assert!(rt; is_valid(a, &[ZERO, LONG, ZERO, Op::CallIndirect(1), DROP])?);
-    assert!(rt;
-        is_valid(
-            a,
-            &[ZERO, Op::If(Some(I64)), LONG, Op::Else, LONG, Op::End, DROP]
-        )?
-    );
-    Ok(())
+    assert!(rt; is_broken(a, with_memory(a, 65_537), Rule::Memory));
+    assert!(rt; is_broken(a, with_table(a, 100_001), Rule::Size));
 }
 
 #[test]
-fn dead_code(rt: HostRuntime) -> Result<(), Fail> {
+fn names(rt: HostRuntime) {
     let a = rt.alloc();
-    assert!(rt; is_valid(a, &[Op::Unreachable, SELECT, DROP])?);
-    assert!(rt; breaks(a, &[Op::Unreachable, SELECT], Rule::Result)?);
-    assert!(rt; breaks(a, &[Op::Unreachable, LONG, ADD, DROP], Rule::Operand)?);
-    Ok(())
-}
-
-#[test]
-fn indices_and_labels(rt: HostRuntime) -> Result<(), Fail> {
-    let a = rt.alloc();
-    assert!(rt; breaks(a, &[Op::Plain(Plain::LocalGet(3)), DROP], Rule::Index)?);
-    assert!(rt; breaks(a, &[Op::Call(3)], Rule::Index)?);
-    assert!(rt; breaks(a, &[Op::Br(1)], Rule::Label)?);
-    assert!(rt; breaks(a, &[ZERO, accessed(2), DROP], Rule::Align)?);
-    assert!(rt; breaks(a, &[ZERO, Op::Plain(Plain::GlobalSet(0))], Rule::Mutable)?);
-    Ok(())
-}
-
-#[test]
-fn operands_and_results(rt: HostRuntime) -> Result<(), Fail> {
-    let a = rt.alloc();
-    assert!(rt; breaks(a, &[DROP], Rule::Operand)?);
-    assert!(rt; breaks(a, &[ZERO], Rule::Result)?);
-    assert!(rt;
-        breaks(
-            a,
-            &[ZERO, Op::If(Some(I32)), ZERO, Op::End, DROP],
-            Rule::Result
-        )?
-    );
-    assert!(rt; breaks(a, &[Op::End], Rule::Result)?);
-    Ok(())
-}
-
-#[test]
-fn stores(rt: HostRuntime) -> Result<(), Fail> {
-    let a = rt.alloc();
-    let mut tree = module_of(a, &[])?;
-    tree.memories = sizes(a, 65_537, None)?;
-    assert!(rt; answers(a, tree, None, Rule::Memory));
-    let mut tree = module_of(a, &[])?;
-    tree.tables = sizes(a, 100_001, None)?;
-    assert!(rt; answers(a, tree, None, Rule::Size));
-    Ok(())
-}
-
-#[test]
-fn names(rt: HostRuntime) -> Result<(), Fail> {
-    let a = rt.alloc();
-    let mut tree = module_of(a, &[])?;
-    tree.exports = exports(a, b"f", b"f")?;
-    assert!(rt; answers(a, tree, None, Rule::Export));
-    let mut tree = module_of(a, &[])?;
-    tree.imports = imports(a, b"msg_replies")?;
-    assert!(rt; answers(a, tree, None, Rule::Import));
-    Ok(())
+    assert!(rt; is_broken(a, with_exports(a, b"f", b"f"), Rule::Export));
+    assert!(rt; is_broken(a, with_import(a, b"msg_replies"), Rule::Import));
 }
 
 fn nested(alloc: alloc::Global, depth: u32) -> Result<Vec<Op>, Memory> {
@@ -238,9 +305,14 @@ fn nested(alloc: alloc::Global, depth: u32) -> Result<Vec<Op>, Memory> {
     Ok(ops)
 }
 
+fn is_deep_valid(alloc: alloc::Global, depth: u32) -> bool {
+    match nested(alloc, depth) {
+        Ok(ops) => is_valid(alloc, ops.as_slice()),
+        Err(_) => false,
+    }
+}
+
 #[test]
-fn deep_nesting(rt: HostRuntime) -> Result<(), Fail> {
-    let ops = nested(rt.alloc(), 200_000)?;
-    assert!(rt; is_valid(rt.alloc(), ops.as_slice())?);
-    Ok(())
+fn deep_nesting(rt: HostRuntime) {
+    assert!(rt; is_deep_valid(rt.alloc(), 200_000));
 }

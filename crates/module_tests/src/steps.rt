@@ -4,9 +4,8 @@ ghost use Rattle.wasm_tree.specs.Valid.{ValidModule};
 use mo_num::{Bytes, Memory, Sequence};
 use std::alloc;
 use std::process::Abort;
-use std::test::Fail;
 use wasm_layout::{frame_words, layout};
-use wasm_steps::{BodyLayout, FunctionLayout, Label, Step};
+use wasm_steps::{BodyLayout, FunctionLayout, Label, ModuleLayout, Step};
 use wasm_tree::{
     BinaryOperator, Function, FunctionType, Import, ImportKind, Limits, Locals, Module, Op, Plain,
     ValueType,
@@ -17,7 +16,7 @@ const I32: ValueType = ValueType::I32;
 
 const I64: ValueType = ValueType::I64;
 
-// The types of `types`, by their results.
+// The types of `TYPES`, by their results.
 const NOTHING: u32 = 0;
 
 const NUMBER: u32 = 1;
@@ -25,6 +24,17 @@ const NUMBER: u32 = 1;
 const TAKES_ONE: u32 = 2;
 
 const TAKES_TWO: u32 = 3;
+
+/// Parameters and results.
+type Signature = (&'static [ValueType], &'static [ValueType]);
+
+// From nothing to nothing and to a number, from one operand to nothing, and from two to one.
+const TYPES: &[Signature] = &[
+    (&[], &[]),
+    (&[], &[I32]),
+    (&[I32], &[]),
+    (&[I32, I32], &[I32]),
+];
 
 fn function_type(
     alloc: alloc::Global,
@@ -37,13 +47,20 @@ fn function_type(
     })
 }
 
-// From nothing to nothing and to a number, from one operand to nothing, and from two to one.
-fn types(alloc: alloc::Global) -> Result<Sequence<FunctionType>, Memory> {
+fn push_type(
+    alloc: alloc::Global,
+    types: &mut Sequence<FunctionType>,
+    params: &[ValueType],
+    results: &[ValueType],
+) -> Result<(), Memory> {
+    types.push(function_type(alloc, params, results)?)
+}
+
+fn types_of(alloc: alloc::Global, table: &[Signature]) -> Result<Sequence<FunctionType>, Memory> {
     let mut types = Sequence::new(alloc);
-    types.push(function_type(alloc, &[], &[])?)?;
-    types.push(function_type(alloc, &[], &[I32])?)?;
-    types.push(function_type(alloc, &[I32], &[])?)?;
-    types.push(function_type(alloc, &[I32, I32], &[I32])?)?;
+    for (params, results) in table {
+        push_type(alloc, &mut types, params, results)?;
+    }
     Ok(types)
 }
 
@@ -73,30 +90,45 @@ fn function(alloc: alloc::Global, signature: u32, ops: &[Op]) -> Result<Function
     })
 }
 
-fn valid(alloc: alloc::Global, module: Module) -> Result<Valid, Fail> {
-    match validate(alloc, module) {
-        Ok(valid) => Ok(valid),
-        Err(_) => Err(Fail::from("not valid")),
+fn valid(alloc: alloc::Global, module: Result<Module, Memory>) -> Option<Valid> {
+    match module {
+        Ok(module) => validate(alloc, module).ok(),
+        Err(_) => None,
     }
+}
+
+fn push_function(
+    alloc: alloc::Global,
+    module: &mut Module,
+    signature: u32,
+    ops: &[Op],
+) -> Result<(), Memory> {
+    module.functions.push(function(alloc, signature, ops)?)
+}
+
+// Puts the types, a table, and functions of these types and bodies.
+fn put_bodies(
+    alloc: alloc::Global,
+    module: &mut Module,
+    bodies: &[(u32, &[Op])],
+) -> Result<(), Memory> {
+    module.types = types_of(alloc, TYPES)?;
+    module.tables.push(Limits { min: 1, max: None })?;
+    for (signature, ops) in bodies {
+        push_function(alloc, module, *signature, ops)?;
+    }
+    Ok(())
+}
+
+fn module_with(alloc: alloc::Global, bodies: &[(u32, &[Op])]) -> Result<Module, Memory> {
+    let mut module = empty(alloc);
+    put_bodies(alloc, &mut module, bodies)?;
+    Ok(module)
 }
 
 // The module with a table and functions of these types and bodies.
-fn laid(alloc: alloc::Global, bodies: &[(u32, &[Op])]) -> Result<Valid, Fail> {
-    let mut module = empty(alloc);
-    module.types = types(alloc)?;
-    module.tables.push(Limits { min: 1, max: None })?;
-    for (signature, ops) in bodies {
-        module.functions.push(function(alloc, *signature, ops)?)?;
-    }
-    valid(alloc, module)
-}
-
-fn constant(number: i32) -> Op {
-    Op::Plain(Plain::I32Const(number))
-}
-
-fn label(to: u32, height: u32, keep: u32) -> Label {
-    Label { to, height, keep }
+fn laid(alloc: alloc::Global, bodies: &[(u32, &[Op])]) -> Option<Valid> {
+    valid(alloc, module_with(alloc, bodies))
 }
 
 // The operands and blocks of a body without parameters and locals: eight words of its frame are others.
@@ -106,203 +138,339 @@ fn extent(module: &Valid, function: usize) -> Option<(usize, usize)> {
     Some((body.height, words.checked_sub(body.height)?))
 }
 
+fn step(module: &Valid, place: usize) -> Option<Step> {
+    module.layout().steps.as_slice().get(place).copied()
+}
+
+fn expect_extents(rt: &impl Abort, module: &Valid, extents: &[(usize, usize)]) {
+    for (function, wanted) in extents.iter().enumerate() {
+        assert_eq!(rt; extent(module, function), Some(*wanted));
+    }
+}
+
+fn expect_places(rt: &impl Abort, module: &Valid, steps: &[(usize, Step)]) {
+    for (place, wanted) in steps {
+        assert_eq!(rt; step(module, *place), Some(*wanted));
+    }
+}
+
 // Whether these are the steps of the whole module.
 fn expect_steps(rt: &impl Abort, module: &Valid, steps: &[Step]) {
     assert_eq!(rt; module.layout().steps.as_slice(), steps);
 }
 
-fn step(module: &Valid, place: usize) -> Option<Step> {
-    module.layout().steps.as_slice().get(place).copied()
+/// Bodies with their types, the operands and blocks of each, and the steps of all.
+struct Whole {
+    bodies: &'static [(u32, &'static [Op])],
+    extents: &'static [(usize, usize)],
+    steps: &'static [Step],
 }
 
-#[test]
-fn blocks(rt: HostRuntime) -> Result<(), Fail> {
-    let ops = [
-        Op::Block(Some(I32)),
-        constant(7),
-        Op::Br(0),
-        Op::End,
-        Op::Plain(Plain::Drop),
-    ];
-    let module = laid(rt.alloc(), &[(NOTHING, &ops)])?;
-    assert_eq!(rt; extent(&module, 0), Some((1, 1)));
-    let steps = [
+fn expect_whole(rt: &impl Abort, alloc: alloc::Global, whole: &Whole) {
+    match laid(alloc, whole.bodies) {
+        Some(module) => {
+            expect_extents(rt, &module, whole.extents);
+            expect_steps(rt, &module, whole.steps);
+        }
+        None => assert!(rt; false, "not valid"),
+    }
+}
+
+/// Bodies with their types, the operands and blocks of the first, and some steps by their places.
+struct Parts {
+    bodies: &'static [(u32, &'static [Op])],
+    extents: &'static [(usize, usize)],
+    steps: &'static [(usize, Step)],
+}
+
+fn expect_parts(rt: &impl Abort, alloc: alloc::Global, parts: &Parts) {
+    match laid(alloc, parts.bodies) {
+        Some(module) => {
+            expect_extents(rt, &module, parts.extents);
+            expect_places(rt, &module, parts.steps);
+        }
+        None => assert!(rt; false, "not valid"),
+    }
+}
+
+const BLOCKS: Whole = Whole {
+    bodies: &[(
+        NOTHING,
+        &[
+            Op::Block(Some(I32)),
+            Op::Plain(Plain::I32Const(7)),
+            Op::Br(0),
+            Op::End,
+            Op::Plain(Plain::Drop),
+        ],
+    )],
+    extents: &[(1, 1)],
+    steps: &[
         Step::Enter,
         Step::I32Const(7),
-        Step::Br(label(3, 0, 1)),
+        Step::Br(Label {
+            to: 3,
+            height: 0,
+            keep: 1,
+        }),
         Step::Drop,
         Step::Finish,
-    ];
-    expect_steps(&rt, &module, &steps);
-    Ok(())
+    ],
+};
+
+#[test]
+fn blocks(rt: HostRuntime) {
+    expect_whole(&rt, rt.alloc(), &BLOCKS);
 }
 
 // A second body, whose loop goes on with its own step, above an operand.
-#[test]
-fn loops(rt: HostRuntime) -> Result<(), Fail> {
-    let first = [Op::Plain(Plain::Nop)];
-    let second = [
-        constant(1),
-        Op::Loop(Some(I32)),
-        constant(2),
-        Op::BrIf(0),
-        constant(3),
-        Op::End,
-        Op::Return,
-    ];
-    let module = laid(rt.alloc(), &[(NOTHING, &first), (NUMBER, &second)])?;
-    assert_eq!(rt; extent(&module, 0), Some((0, 0)));
-    assert_eq!(rt; extent(&module, 1), Some((2, 1)));
-    let steps = [
+const LOOPS: Whole = Whole {
+    bodies: &[
+        (NOTHING, &[Op::Plain(Plain::Nop)]),
+        (
+            NUMBER,
+            &[
+                Op::Plain(Plain::I32Const(1)),
+                Op::Loop(Some(I32)),
+                Op::Plain(Plain::I32Const(2)),
+                Op::BrIf(0),
+                Op::Plain(Plain::I32Const(3)),
+                Op::End,
+                Op::Return,
+            ],
+        ),
+    ],
+    extents: &[(0, 0), (2, 1)],
+    steps: &[
         Step::Nop,
         Step::Finish,
         Step::I32Const(1),
         Step::Enter,
         Step::I32Const(2),
-        Step::BrIf(label(3, 1, 0)),
+        Step::BrIf(Label {
+            to: 3,
+            height: 1,
+            keep: 0,
+        }),
         Step::I32Const(3),
         Step::Return(1),
         Step::Finish,
-    ];
-    expect_steps(&rt, &module, &steps);
-    Ok(())
-}
+    ],
+};
 
 #[test]
-fn one_side(rt: HostRuntime) -> Result<(), Fail> {
-    let ops = [
-        constant(5),
-        constant(1),
-        Op::If(None),
-        Op::Br(0),
-        Op::End,
-        Op::Plain(Plain::Drop),
-    ];
-    let module = laid(rt.alloc(), &[(NOTHING, &ops)])?;
-    assert_eq!(rt; extent(&module, 0), Some((2, 1)));
-    let steps = [
+fn loops(rt: HostRuntime) {
+    expect_whole(&rt, rt.alloc(), &LOOPS);
+}
+
+const ONE_SIDE: Whole = Whole {
+    bodies: &[(
+        NOTHING,
+        &[
+            Op::Plain(Plain::I32Const(5)),
+            Op::Plain(Plain::I32Const(1)),
+            Op::If(None),
+            Op::Br(0),
+            Op::End,
+            Op::Plain(Plain::Drop),
+        ],
+    )],
+    extents: &[(2, 1)],
+    steps: &[
         Step::I32Const(5),
         Step::I32Const(1),
         Step::Test(4),
-        Step::Br(label(4, 1, 0)),
+        Step::Br(Label {
+            to: 4,
+            height: 1,
+            keep: 0,
+        }),
         Step::Drop,
         Step::Finish,
-    ];
-    expect_steps(&rt, &module, &steps);
-    Ok(())
-}
+    ],
+};
 
 #[test]
-fn two_sides(rt: HostRuntime) -> Result<(), Fail> {
-    let ops = [
-        constant(1),
-        Op::If(Some(I32)),
-        constant(2),
-        Op::Else,
-        constant(3),
-        Op::End,
-    ];
-    let module = laid(rt.alloc(), &[(NUMBER, &ops)])?;
-    assert_eq!(rt; extent(&module, 0), Some((1, 1)));
-    let steps = [
+fn one_side(rt: HostRuntime) {
+    expect_whole(&rt, rt.alloc(), &ONE_SIDE);
+}
+
+const TWO_SIDES: Whole = Whole {
+    bodies: &[(
+        NUMBER,
+        &[
+            Op::Plain(Plain::I32Const(1)),
+            Op::If(Some(I32)),
+            Op::Plain(Plain::I32Const(2)),
+            Op::Else,
+            Op::Plain(Plain::I32Const(3)),
+            Op::End,
+        ],
+    )],
+    extents: &[(1, 1)],
+    steps: &[
         Step::I32Const(1),
         Step::Test(4),
         Step::I32Const(2),
         Step::Jump(5),
         Step::I32Const(3),
         Step::Finish,
-    ];
-    expect_steps(&rt, &module, &steps);
-    Ok(())
-}
+    ],
+};
 
 #[test]
-fn tables(rt: HostRuntime) -> Result<(), Fail> {
-    let ops = [
-        Op::Block(None),
-        Op::Block(None),
-        constant(0),
-        Op::BrTable(2),
-        Op::Target(0),
-        Op::Target(2),
-        Op::Target(1),
-        Op::End,
-        Op::Plain(Plain::Nop),
-        Op::End,
-        Op::Plain(Plain::Nop),
-    ];
-    let module = laid(rt.alloc(), &[(NOTHING, &ops)])?;
-    assert_eq!(rt; extent(&module, 0), Some((1, 2)));
-    let steps = [
+fn two_sides(rt: HostRuntime) {
+    expect_whole(&rt, rt.alloc(), &TWO_SIDES);
+}
+
+const TABLES: Whole = Whole {
+    bodies: &[(
+        NOTHING,
+        &[
+            Op::Block(None),
+            Op::Block(None),
+            Op::Plain(Plain::I32Const(0)),
+            Op::BrTable(2),
+            Op::Target(0),
+            Op::Target(2),
+            Op::Target(1),
+            Op::End,
+            Op::Plain(Plain::Nop),
+            Op::End,
+            Op::Plain(Plain::Nop),
+        ],
+    )],
+    extents: &[(1, 2)],
+    steps: &[
         Step::Enter,
         Step::Enter,
         Step::I32Const(0),
         Step::BrTable(2),
-        Step::Entry(label(7, 0, 0)),
-        Step::Entry(label(9, 0, 0)),
-        Step::Entry(label(8, 0, 0)),
+        Step::Entry(Label {
+            to: 7,
+            height: 0,
+            keep: 0,
+        }),
+        Step::Entry(Label {
+            to: 9,
+            height: 0,
+            keep: 0,
+        }),
+        Step::Entry(Label {
+            to: 8,
+            height: 0,
+            keep: 0,
+        }),
         Step::Nop,
         Step::Nop,
         Step::Finish,
-    ];
-    expect_steps(&rt, &module, &steps);
-    Ok(())
+    ],
+};
+
+#[test]
+fn tables(rt: HostRuntime) {
+    expect_whole(&rt, rt.alloc(), &TABLES);
 }
 
 // After a branch the height is that of the block's beginning, and nothing below it is taken.
+const DEAD_CODE: Parts = Parts {
+    bodies: &[(
+        NOTHING,
+        &[
+            Op::Plain(Plain::I32Const(1)),
+            Op::Block(None),
+            Op::Br(0),
+            Op::Plain(Plain::Drop),
+            Op::Plain(Plain::Drop),
+            Op::Plain(Plain::I32Const(2)),
+            Op::Plain(Plain::I32Const(3)),
+            Op::Block(None),
+            Op::Br(0),
+            Op::End,
+            Op::Plain(Plain::Drop),
+            Op::Plain(Plain::Drop),
+            Op::End,
+            Op::Plain(Plain::Drop),
+        ],
+    )],
+    extents: &[(3, 2)],
+    steps: &[
+        (
+            2,
+            Step::Br(Label {
+                to: 11,
+                height: 1,
+                keep: 0,
+            }),
+        ),
+        (
+            8,
+            Step::Br(Label {
+                to: 9,
+                height: 3,
+                keep: 0,
+            }),
+        ),
+        (11, Step::Drop),
+        (12, Step::Finish),
+    ],
+};
+
 #[test]
-fn dead_code(rt: HostRuntime) -> Result<(), Fail> {
-    let ops = [
-        constant(1),
-        Op::Block(None),
-        Op::Br(0),
-        Op::Plain(Plain::Drop),
-        Op::Plain(Plain::Drop),
-        constant(2),
-        constant(3),
-        Op::Block(None),
-        Op::Br(0),
-        Op::End,
-        Op::Plain(Plain::Drop),
-        Op::Plain(Plain::Drop),
-        Op::End,
-        Op::Plain(Plain::Drop),
-    ];
-    let module = laid(rt.alloc(), &[(NOTHING, &ops)])?;
-    assert_eq!(rt; extent(&module, 0), Some((3, 2)));
-    assert_eq!(rt; step(&module, 2), Some(Step::Br(label(11, 1, 0))));
-    assert_eq!(rt; step(&module, 8), Some(Step::Br(label(9, 3, 0))));
-    assert_eq!(rt; step(&module, 11), Some(Step::Drop));
-    assert_eq!(rt; step(&module, 12), Some(Step::Finish));
-    Ok(())
+fn dead_code(rt: HostRuntime) {
+    expect_parts(&rt, rt.alloc(), &DEAD_CODE);
 }
 
 // Calls take their operands, and a block behind them begins above what they leave.
+const CALLS: Parts = Parts {
+    bodies: &[
+        (
+            NUMBER,
+            &[
+                Op::Plain(Plain::I32Const(1)),
+                Op::Call(1),
+                Op::Plain(Plain::I32Const(2)),
+                Op::Plain(Plain::I32Const(3)),
+                Op::Plain(Plain::I32Const(4)),
+                Op::Plain(Plain::I32Const(5)),
+                Op::CallIndirect(TAKES_TWO),
+                Op::Block(None),
+                Op::Plain(Plain::I32Const(0)),
+                Op::BrIf(0),
+                Op::Plain(Plain::I32Const(6)),
+                Op::Br(1),
+                Op::End,
+                Op::Plain(Plain::Binary(I32, BinaryOperator::Add)),
+            ],
+        ),
+        (TAKES_ONE, &[]),
+    ],
+    extents: &[(4, 1)],
+    steps: &[
+        (1, Step::Call(1)),
+        (6, Step::CallIndirect(TAKES_TWO)),
+        (
+            9,
+            Step::BrIf(Label {
+                to: 12,
+                height: 2,
+                keep: 0,
+            }),
+        ),
+        (
+            11,
+            Step::Br(Label {
+                to: 13,
+                height: 0,
+                keep: 1,
+            }),
+        ),
+    ],
+};
+
 #[test]
-fn calls(rt: HostRuntime) -> Result<(), Fail> {
-    let ops = [
-        constant(1),
-        Op::Call(1),
-        constant(2),
-        constant(3),
-        constant(4),
-        constant(5),
-        Op::CallIndirect(TAKES_TWO),
-        Op::Block(None),
-        constant(0),
-        Op::BrIf(0),
-        constant(6),
-        Op::Br(1),
-        Op::End,
-        Op::Plain(Plain::Binary(I32, BinaryOperator::Add)),
-    ];
-    let module = laid(rt.alloc(), &[(NUMBER, &ops), (TAKES_ONE, &[])])?;
-    assert_eq!(rt; extent(&module, 0), Some((4, 1)));
-    assert_eq!(rt; step(&module, 1), Some(Step::Call(1)));
-    assert_eq!(rt; step(&module, 6), Some(Step::CallIndirect(TAKES_TWO)));
-    assert_eq!(rt; step(&module, 9), Some(Step::BrIf(label(12, 2, 0))));
-    assert_eq!(rt; step(&module, 11), Some(Step::Br(label(13, 0, 1))));
-    Ok(())
+fn calls(rt: HostRuntime) {
+    expect_parts(&rt, rt.alloc(), &CALLS);
 }
 
 // So many blocks one in another, and a branch out of all of them.
@@ -318,17 +486,34 @@ fn nested(alloc: alloc::Global, count: u32) -> Result<Vec<Op>, Memory> {
     Ok(ops)
 }
 
+const DEEP_STEPS: &[(usize, Step)] = &[
+    (
+        100_000,
+        Step::Br(Label {
+            to: 100_001,
+            height: 0,
+            keep: 0,
+        }),
+    ),
+    (100_001, Step::Finish),
+];
+
+fn deep_module(alloc: alloc::Global, depth: u32) -> Option<Valid> {
+    match nested(alloc, depth) {
+        Ok(ops) => laid(alloc, &[(NOTHING, ops.as_slice())]),
+        Err(_) => None,
+    }
+}
+
 #[test]
-fn deep(rt: HostRuntime) -> Result<(), Fail> {
-    let ops = nested(rt.alloc(), 100_000)?;
-    let module = laid(rt.alloc(), &[(NOTHING, ops.as_slice())])?;
-    assert_eq!(rt; extent(&module, 0), Some((0, 100_000)));
-    assert_eq!(rt;
-        step(&module, 100_000),
-        Some(Step::Br(label(100_001, 0, 0)))
-    );
-    assert_eq!(rt; step(&module, 100_001), Some(Step::Finish));
-    Ok(())
+fn deep(rt: HostRuntime) {
+    match deep_module(rt.alloc(), 100_000) {
+        Some(module) => {
+            expect_extents(&rt, &module, &[(0, 100_000)]);
+            expect_places(&rt, &module, DEEP_STEPS);
+        }
+        None => assert!(rt; false, "not valid"),
+    }
 }
 
 fn locals(alloc: alloc::Global, first: u32, second: u32) -> Result<Sequence<Locals>, Memory> {
@@ -355,81 +540,129 @@ fn imports(alloc: alloc::Global) -> Result<Sequence<Import>, Memory> {
 }
 
 // From two i32, from an i64 to an i64, and from an i32 and an i64 to an i32.
-fn signatures(alloc: alloc::Global) -> Result<Sequence<FunctionType>, Memory> {
-    let mut types = Sequence::new(alloc);
-    types.push(function_type(alloc, &[I32, I32], &[])?)?;
-    types.push(function_type(alloc, &[I64], &[I64])?)?;
-    types.push(function_type(alloc, &[I32, I64], &[I32])?)?;
-    Ok(types)
+const SIGNATURES: &[Signature] = &[(&[I32, I32], &[]), (&[I64], &[I64]), (&[I32, I64], &[I32])];
+
+const BODY: &[Op] = &[
+    Op::Plain(Plain::I32Const(1)),
+    Op::Plain(Plain::I64Const(2)),
+    Op::Call(2),
+];
+
+fn own_function(alloc: alloc::Global, first: u32, second: u32) -> Result<Function, Memory> {
+    let mut own = function(alloc, 2, BODY)?;
+    own.locals = locals(alloc, first, second)?;
+    Ok(own)
+}
+
+fn put_parts(
+    alloc: alloc::Global,
+    module: &mut Module,
+    first: u32,
+    second: u32,
+) -> Result<(), Memory> {
+    module.types = types_of(alloc, SIGNATURES)?;
+    module.imports = imports(alloc)?;
+    module.functions.push(own_function(alloc, first, second)?)
 }
 
 // Two imported functions, and one of the module with so many locals, which calls itself.
 fn module_of(alloc: alloc::Global, first: u32, second: u32) -> Result<Module, Memory> {
-    let ops = [constant(1), Op::Plain(Plain::I64Const(2)), Op::Call(2)];
-    let mut own = function(alloc, 2, &ops)?;
-    own.locals = locals(alloc, first, second)?;
     let mut module = empty(alloc);
-    module.types = signatures(alloc)?;
-    module.imports = imports(alloc)?;
-    module.functions.push(own)?;
+    put_parts(alloc, &mut module, first, second)?;
     Ok(module)
 }
 
-fn imported(signature: u32, params: usize, results: usize) -> FunctionLayout {
-    FunctionLayout {
-        signature,
-        params,
-        results,
-        body: None,
-    }
-}
-
 // 8 words, 2 parameters, 131 locals, 2 operands, and no block.
-#[test]
-fn frames(rt: HostRuntime) -> Result<(), Fail> {
-    let module = valid(rt.alloc(), module_of(rt.alloc(), 3, 128)?)?;
-    let body = BodyLayout {
-        entry: 0,
-        locals: 131,
-        height: 2,
-        words: 143,
-    };
-    let defined = FunctionLayout {
+const FACTS: &[FunctionLayout] = &[
+    FunctionLayout {
+        signature: 0,
+        params: 2,
+        results: 0,
+        body: None,
+    },
+    FunctionLayout {
+        signature: 1,
+        params: 1,
+        results: 1,
+        body: None,
+    },
+    FunctionLayout {
         signature: 2,
         params: 2,
         results: 1,
-        body: Some(body),
-    };
-    let facts = [imported(0, 2, 0), imported(1, 1, 1), defined];
-    assert_eq!(rt; module.layout().functions.as_slice(), facts.as_slice());
-    let steps = [
-        Step::I32Const(1),
-        Step::I64Const(2),
-        Step::Call(2),
-        Step::Finish,
-    ];
-    expect_steps(&rt, &module, &steps);
-    Ok(())
+        body: Some(BodyLayout {
+            entry: 0,
+            locals: 131,
+            height: 2,
+            words: 143,
+        }),
+    },
+];
+
+const FRAME_STEPS: &[Step] = &[
+    Step::I32Const(1),
+    Step::I64Const(2),
+    Step::Call(2),
+    Step::Finish,
+];
+
+#[test]
+fn frames(rt: HostRuntime) {
+    match valid(rt.alloc(), module_of(rt.alloc(), 3, 128)) {
+        Some(module) => {
+            assert_eq!(rt; module.layout().functions.as_slice(), FACTS);
+            expect_steps(&rt, &module, FRAME_STEPS);
+        }
+        None => assert!(rt; false, "not valid"),
+    }
+}
+
+/// The words of a frame, or why there is no such module.
+fn words_of(module: Result<Valid, ValidFault>) -> Result<Option<usize>, ValidFault> {
+    match module {
+        Ok(module) => Ok(module.frame_words(2)),
+        Err(fault) => Err(fault),
+    }
+}
+
+fn words_with(
+    alloc: alloc::Global,
+    first: u32,
+    second: u32,
+) -> Option<Result<Option<usize>, ValidFault>> {
+    match module_of(alloc, first, second) {
+        Ok(module) => Some(words_of(validate(alloc, module))),
+        Err(_) => None,
+    }
 }
 
 // No frame holds 2^32 locals: such a module is too large to be laid out.
 #[test]
-fn limits(rt: HostRuntime) -> Result<(), Fail> {
-    let most = valid(rt.alloc(), module_of(rt.alloc(), u32::MAX - 1, 1)?)?;
-    assert_eq!(rt; most.frame_words(2), Some(4_294_967_307));
-    let more = validate(rt.alloc(), module_of(rt.alloc(), u32::MAX, 1)?);
-    assert_eq!(rt; more.err(), Some(ValidFault::Memory));
-    Ok(())
+fn limits(rt: HostRuntime) {
+    let most = words_with(rt.alloc(), u32::MAX - 1, 1);
+    assert!(rt; most == Some(Ok(Some(4_294_967_307))));
+    let more = words_with(rt.alloc(), u32::MAX, 1);
+    assert!(rt; more == Some(Err(ValidFault::Memory)));
+}
+
+/// How many steps and functions there are, and the words of the first one's frame.
+fn told(layout: &ModuleLayout) -> (usize, usize, Option<usize>) {
+    (
+        layout.steps.len(),
+        layout.functions.len(),
+        frame_words(layout, 0),
+    )
+}
+
+fn told_of_nothing(alloc: alloc::Global) -> Option<(usize, usize, Option<usize>)> {
+    let module = empty(alloc);
+    match layout(alloc, &module) {
+        Ok(layout) => Some(told(&layout)),
+        Err(_) => None,
+    }
 }
 
 #[test]
-fn nothing(rt: HostRuntime) -> Result<(), Fail> {
-    let module = empty(rt.alloc());
-    let Ok(layout) = layout(rt.alloc(), &module) else {
-        return Err(Fail::from("no layout"));
-    };
-    assert_eq!(rt; layout.steps.len(), 0);
-    assert_eq!(rt; layout.functions.len(), 0);
-    assert_eq!(rt; frame_words(&layout, 0), None);
-    Ok(())
+fn nothing(rt: HostRuntime) {
+    assert_eq!(rt; told_of_nothing(rt.alloc()), Some((0, 0, None)));
 }

@@ -6,7 +6,6 @@ ghost use Rattle.wasm_tree.specs.Bounded.{Within, IsShort, IsSmallImport, export
 
 use mo_num::{Bytes, Memory, Sequence};
 use std::alloc;
-use std::test::Fail;
 use wasm_tree::{
     DataSegment, ElementSegment, Export, ExportKind, Expression, Function, FunctionType, Global,
     GlobalType, Import, ImportKind, Limits, Locals, Module, Op, Plain, ValueType, write,
@@ -225,52 +224,98 @@ fn one_export(alloc: alloc::Global, name: &str) -> Result<Module, Memory>
     Ok(only(alloc, exports))
 }
 
-#[test]
-fn empty(rt: HostRuntime) -> Result<(), Fail> {
-    let alloc = rt.alloc();
-    let bytes = write(alloc, &only(alloc, Sequence::new(alloc)))?;
-    assert_eq!(rt; bytes.as_slice(), b"\0asm\x01\0\0\0".as_slice());
-    Ok(())
-}
-
-#[test]
-fn parts(rt: HostRuntime) -> Result<(), Fail> {
-    let bytes = write(rt.alloc(), &every_part(rt.alloc())?)?;
-    let want = b"\0asm\x01\0\0\0\
-        \x01\x0a\x02\x60\x02\x7f\x7e\x01\x7f\x60\x00\x00\
-        \x02\x1f\x04\x01m\x01f\x00\x01\x01m\x01t\x01\x70\x01\x01\x02\x01m\x02\xc3\xa9\x02\x00\x01\x01m\x01g\x03\x7e\x01\
-        \x03\x03\x02\x01\x00\
-        \x04\x06\x01\x70\x01\x00\xac\x02\
-        \x05\x06\x01\x01\x01\x80\x80\x04\
-        \x06\x18\x03\x7f\x00\x41\x7f\x0b\x7f\x01\x41\xff\xff\xff\xff\x07\x0b\x7f\x00\x41\x80\x80\x80\x80\x78\x0b\
-        \x07\x12\x04\x01f\x00\x01\x01t\x01\x00\x01m\x02\x00\x01g\x03\x80\x01\
-        \x08\x01\x01\
-        \x09\x09\x01\x00\x41\x00\x0b\x02\x00\x80\x01\
-        \x0a\x11\x02\x09\x02\x03\x7f\x80\x01\x7e\x10\x00\x0b\x05\x00\x41\xc0\x00\x0b\
-        \x0b\x08\x01\x00\x41\x40\x0b\x02\x00\xff";
-    assert_eq!(rt; bytes.as_slice(), want.as_slice());
-    Ok(())
-}
-
-// Where one byte no longer holds the size of the section, or the length of the name.
-#[test]
-fn borders(rt: HostRuntime) -> Result<(), Fail> {
-    let alloc = rt.alloc();
-    let long = "0123456789abcdef".repeat(alloc, 8)?;
-    let table: [(usize, &[u8]); 4] = [
-        (123, b"\x07\x7f\x01\x7b"),
-        (124, b"\x07\x80\x01\x01\x7c"),
-        (127, b"\x07\x83\x01\x01\x7f"),
-        (128, b"\x07\x85\x01\x01\x80\x01"),
-    ];
-    for (len, before) in table {
-        let name = &long.as_str()[..len];
-        let bytes = write(alloc, &one_export(alloc, name)?)?;
-        let mut want = Vec::from_slice(alloc, b"\0asm\x01\0\0\0")?;
-        want.extend_from_slice(before)?;
-        want.extend_from_slice(name.as_bytes())?;
-        want.extend_from_slice(b"\0\0")?;
-        assert_eq!(rt; bytes.as_slice(), want.as_slice(), "at {len}");
+// Whether the module is written as these bytes.
+pub fn is_written_as(alloc: alloc::Global, tree: &Module, wanted: &[u8]) -> bool
+    requires { HasSpelling (Written tree.now) }
+{
+    match write(alloc, tree) {
+        Ok(bytes) => bytes.as_slice() == wanted,
+        Err(_) => false,
     }
-    Ok(())
+}
+
+const HEADER: &[u8] = b"\0asm\x01\0\0\0";
+
+#[test]
+fn empty(rt: HostRuntime) {
+    let alloc = rt.alloc();
+    let tree = only(alloc, Sequence::new(alloc));
+    assert!(rt; is_written_as(alloc, &tree, HEADER));
+}
+
+const PARTS: &[u8] = b"\0asm\x01\0\0\0\
+    \x01\x0a\x02\x60\x02\x7f\x7e\x01\x7f\x60\x00\x00\
+    \x02\x1f\x04\x01m\x01f\x00\x01\x01m\x01t\x01\x70\x01\x01\x02\x01m\x02\xc3\xa9\x02\x00\x01\x01m\x01g\x03\x7e\x01\
+    \x03\x03\x02\x01\x00\
+    \x04\x06\x01\x70\x01\x00\xac\x02\
+    \x05\x06\x01\x01\x01\x80\x80\x04\
+    \x06\x18\x03\x7f\x00\x41\x7f\x0b\x7f\x01\x41\xff\xff\xff\xff\x07\x0b\x7f\x00\x41\x80\x80\x80\x80\x78\x0b\
+    \x07\x12\x04\x01f\x00\x01\x01t\x01\x00\x01m\x02\x00\x01g\x03\x80\x01\
+    \x08\x01\x01\
+    \x09\x09\x01\x00\x41\x00\x0b\x02\x00\x80\x01\
+    \x0a\x11\x02\x09\x02\x03\x7f\x80\x01\x7e\x10\x00\x0b\x05\x00\x41\xc0\x00\x0b\
+    \x0b\x08\x01\x00\x41\x40\x0b\x02\x00\xff";
+
+fn is_every_part_written(alloc: alloc::Global) -> bool {
+    match every_part(alloc) {
+        Ok(tree) => is_written_as(alloc, &tree, PARTS),
+        Err(_) => false,
+    }
+}
+
+#[test]
+fn parts(rt: HostRuntime) {
+    assert!(rt; is_every_part_written(rt.alloc()));
+}
+
+// Where one byte no longer holds the size of the section, or the length of the name: its length, the name, and the bytes
+// before it.
+const BORDERS: &[(usize, &str, &[u8])] = &[
+    (
+        123,
+        "0123456789abcdef0123456789abcdef0123456789abcdef0123456789abcdef0123456789abcdef0123456789abcdef0123456789abcdef0123456789a",
+        b"\x07\x7f\x01\x7b",
+    ),
+    (
+        124,
+        "0123456789abcdef0123456789abcdef0123456789abcdef0123456789abcdef0123456789abcdef0123456789abcdef0123456789abcdef0123456789ab",
+        b"\x07\x80\x01\x01\x7c",
+    ),
+    (
+        127,
+        "0123456789abcdef0123456789abcdef0123456789abcdef0123456789abcdef0123456789abcdef0123456789abcdef0123456789abcdef0123456789abcde",
+        b"\x07\x83\x01\x01\x7f",
+    ),
+    (
+        128,
+        "0123456789abcdef0123456789abcdef0123456789abcdef0123456789abcdef0123456789abcdef0123456789abcdef0123456789abcdef0123456789abcdef",
+        b"\x07\x85\x01\x01\x80\x01",
+    ),
+];
+
+fn put_export(bytes: &mut Vec<u8>, before: &[u8], name: &str) -> bool {
+    bytes.extend_from_slice(HEADER).is_ok()
+        && bytes.extend_from_slice(before).is_ok()
+        && bytes.extend_from_slice(name.as_bytes()).is_ok()
+        && bytes.extend_from_slice(b"\0\0").is_ok()
+}
+
+fn is_export_written(alloc: alloc::Global, name: &str, wanted: &[u8]) -> bool {
+    match one_export(alloc, name) {
+        Ok(tree) => is_written_as(alloc, &tree, wanted),
+        Err(_) => false,
+    }
+}
+
+fn is_written_after(alloc: alloc::Global, before: &[u8], name: &str) -> bool {
+    let mut wanted = Vec::new(alloc);
+    put_export(&mut wanted, before, name) && is_export_written(alloc, name, wanted.as_slice())
+}
+
+#[test]
+fn borders(rt: HostRuntime) {
+    for (len, name, before) in BORDERS {
+        assert_eq!(rt; name.len(), *len);
+        assert!(rt; is_written_after(rt.alloc(), before, name), "at {len}");
+    }
 }
