@@ -1,93 +1,113 @@
 //! Headers by the Candid specification, with the bytes by hand.
-use crate::types::{actor, add, define, fresh, list, list_of, object, tuple, variant};
+use crate::values::put_types;
 use candid_write::type_table;
-use mo_num::{Kind, Sequence};
-use mo_types::{Node, Sort, TypeGraph, TypeId};
+use mo_num::Kind;
+use mo_types::{Sort, TypeId};
 use std::alloc::Global;
-use std::test::Fail;
+use std::process::Abort;
+use type_tests::tables::{Form, Table, Types, types_of};
 
-fn header(alloc: Global, types: &TypeGraph, ids: &[TypeId]) -> Result<Vec<u8>, Fail> {
-    let made = type_table(alloc, types, ids).ok().ok_or("a header")?;
-    Ok(made.into_vec())
+fn is_header_of(alloc: Global, types: &Types, ids: &[TypeId], bytes: &[u8]) -> bool {
+    match type_table(alloc, &types.graph, ids) {
+        Ok(made) => made.as_slice() == bytes,
+        Err(_) => false,
+    }
 }
 
-#[test]
-fn equal_types_have_one_entry(rt: HostRuntime) -> Result<(), Fail> {
-    let alloc = rt.alloc();
-    let mut types = TypeGraph::new(alloc);
-    let char = add(&mut types, Node::Char)?;
-    let nat32 = add(&mut types, Node::Number(Kind::Nat32))?;
-    let first = add(&mut types, Node::Opt(char))?;
-    let second = add(&mut types, Node::Opt(nat32))?;
-    let made = header(alloc, &types, &[first, second])?;
-    assert_eq!(rt; made.as_slice(), b"DIDL\x01\x6e\x79\x02\x00\x00".as_slice());
-    let nat8 = add(&mut types, Node::Number(Kind::Nat8))?;
-    let bytes = add(&mut types, Node::Array(nat8))?;
-    let blob = add(&mut types, Node::Blob)?;
-    let made = header(alloc, &types, &[blob, bytes])?;
-    assert_eq!(rt; made.as_slice(), b"DIDL\x01\x6d\x7b\x02\x00\x00".as_slice());
-    Ok(())
+fn is_header_in(alloc: Global, types: &Types, places: &[usize], bytes: &[u8]) -> bool {
+    let mut ids = Vec::new(alloc);
+    put_types(types, places, &mut ids) && is_header_of(alloc, types, ids.as_slice(), bytes)
 }
 
-#[test]
-fn fields_go_by_number(rt: HostRuntime) -> Result<(), Fail> {
-    let alloc = rt.alloc();
-    let mut types = TypeGraph::new(alloc);
-    let nat = add(&mut types, Node::Number(Kind::Nat))?;
-    let text = add(&mut types, Node::Text)?;
-    let unit = tuple(alloc, &mut types, &[])?;
-    let record = object(alloc, &mut types, &[("err", nat), ("ok", text)])?;
-    let made = header(alloc, &types, &[record])?;
-    assert_eq!(rt;
-        made.as_slice(),
-        b"DIDL\x01\x6c\x02\x9c\xc2\x01\x71\xe5\x8e\xb4\x02\x7d\x01\x00".as_slice()
-    );
-    let result = variant(alloc, &mut types, &[("err", nat), ("ok", unit)])?;
-    let made = header(alloc, &types, &[result])?;
-    assert_eq!(rt;
-        made.as_slice(),
-        b"DIDL\x01\x6b\x02\x9c\xc2\x01\x7f\xe5\x8e\xb4\x02\x7d\x01\x00".as_slice()
-    );
-    Ok(())
+fn is_header(alloc: Global, places: &[usize], bytes: &[u8]) -> bool {
+    match types_of(alloc, &TYPES) {
+        Some(types) => is_header_in(alloc, &types, places, bytes),
+        None => false,
+    }
 }
 
-#[test]
-fn recursive_types_end(rt: HostRuntime) -> Result<(), Fail> {
-    let alloc = rt.alloc();
-    let mut types = TypeGraph::new(alloc);
-    let nat = add(&mut types, Node::Number(Kind::Nat))?;
-    let numbers = list_of(alloc, &mut types, nat)?;
-    let made = header(alloc, &types, &[numbers])?;
-    assert_eq!(rt;
-        made.as_slice(),
-        b"DIDL\x02\x6e\x01\x6c\x02\x00\x7d\x01\x00\x01\x00".as_slice()
-    );
-    let a = fresh(&mut types)?;
-    let b = fresh(&mut types)?;
-    let inner = add(&mut types, Node::Opt(b))?;
-    define(&mut types, a, Node::Opt(a))?;
-    define(&mut types, b, Node::Opt(inner))?;
-    let made = header(alloc, &types, &[a, b, inner])?;
-    assert_eq!(rt;
-        made.as_slice(),
-        b"DIDL\x01\x6e\x00\x03\x00\x00\x00".as_slice()
-    );
-    Ok(())
+/// The types at these places, and their header.
+type Row = (&'static [usize], &'static [u8]);
+
+fn expect(rt: &impl Abort, alloc: Global, rows: &[Row]) {
+    for (index, (places, bytes)) in rows.iter().enumerate() {
+        assert!(rt; is_header(alloc, places, bytes), "header {index}");
+    }
 }
 
+const TYPES: Table = Table {
+    forms: &[
+        Form::Char,
+        Form::Number(Kind::Nat32),
+        Form::Opt(0),
+        Form::Opt(1),
+        Form::Number(Kind::Nat8),
+        Form::Array(4),
+        Form::Blob,
+        Form::Number(Kind::Nat),
+        Form::Text,
+        Form::Tuple(&[]),
+        Form::Object(&[("err", 7), ("ok", 8)]),
+        Form::Variant(&[("err", 7), ("ok", 9)]),
+        // `type List = ?(Nat, List)`.
+        Form::Fresh,
+        Form::Tuple(&[7, 12]),
+        // `type A = ?A`, and `type B = ?(?B)`.
+        Form::Fresh,
+        Form::Fresh,
+        Form::Opt(15),
+        Form::Func(Sort::Query, &[], &[7]),
+        Form::Actor(&[("b", 17), ("a", 17)]),
+    ],
+    definitions: &[
+        (12, Form::Opt(13)),
+        (14, Form::Opt(14)),
+        (15, Form::Opt(16)),
+    ],
+};
+
+const EQUAL: &[Row] = &[
+    (&[2, 3], b"DIDL\x01\x6e\x79\x02\x00\x00"),
+    (&[6, 5], b"DIDL\x01\x6d\x7b\x02\x00\x00"),
+];
+
 #[test]
-fn functions_and_services(rt: HostRuntime) -> Result<(), Fail> {
-    let alloc = rt.alloc();
-    let mut types = TypeGraph::new(alloc);
-    let nat = add(&mut types, Node::Number(Kind::Nat))?;
-    let results = list(alloc, &[nat])?;
-    let query = Node::Func(Sort::Query, Sequence::new(alloc), results);
-    let query = add(&mut types, query)?;
-    let service = actor(alloc, &mut types, &[("b", query), ("a", query)])?;
-    let made = header(alloc, &types, &[service])?;
-    assert_eq!(rt;
-        made.as_slice(),
-        b"DIDL\x02\x69\x02\x01a\x01\x01b\x01\x6a\x00\x01\x7d\x01\x01\x01\x00".as_slice()
-    );
-    Ok(())
+fn equal_types_have_one_entry(rt: HostRuntime) {
+    expect(&rt, rt.alloc(), EQUAL);
+}
+
+const BY_NUMBER: &[Row] = &[
+    (
+        &[10],
+        b"DIDL\x01\x6c\x02\x9c\xc2\x01\x71\xe5\x8e\xb4\x02\x7d\x01\x00",
+    ),
+    (
+        &[11],
+        b"DIDL\x01\x6b\x02\x9c\xc2\x01\x7f\xe5\x8e\xb4\x02\x7d\x01\x00",
+    ),
+];
+
+#[test]
+fn fields_go_by_number(rt: HostRuntime) {
+    expect(&rt, rt.alloc(), BY_NUMBER);
+}
+
+const RECURSIVE: &[Row] = &[
+    (&[12], b"DIDL\x02\x6e\x01\x6c\x02\x00\x7d\x01\x00\x01\x00"),
+    (&[14, 15, 16], b"DIDL\x01\x6e\x00\x03\x00\x00\x00"),
+];
+
+#[test]
+fn recursive_types_end(rt: HostRuntime) {
+    expect(&rt, rt.alloc(), RECURSIVE);
+}
+
+const SERVICES: &[Row] = &[(
+    &[18],
+    b"DIDL\x02\x69\x02\x01a\x01\x01b\x01\x6a\x00\x01\x7d\x01\x01\x01\x00",
+)];
+
+#[test]
+fn functions_and_services(rt: HostRuntime) {
+    expect(&rt, rt.alloc(), SERVICES);
 }

@@ -12,8 +12,8 @@ mod header_reading;
 #[cfg(test)]
 mod header_writing;
 #[cfg(test)]
-mod types;
-#[cfg(test)]
 mod value_reading;
+#[cfg(test)]
+mod values;
 #[cfg(test)]
 mod without_bytes;
