@@ -1,4 +1,3 @@
 pub mod Scoping
-pub mod Cases
 pub mod Breaking
 pub mod Distinct

@@ -4,6 +4,7 @@ pub mod Scopes
 pub mod TypeRules
 pub mod PatternRules
 pub mod ExpressionRules
+pub mod PartRules
 pub mod ProgramRules
 pub mod Order
 pub mod Bound

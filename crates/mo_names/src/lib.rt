@@ -3,12 +3,15 @@
 
 mod adding;
 mod binding;
+mod declarations;
 mod entering;
 mod expressions;
 mod fault;
+mod layers;
 mod library;
 mod meaning;
 mod names;
+mod part;
 mod patterns;
 mod program;
 mod resolving;
