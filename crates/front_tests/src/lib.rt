@@ -10,6 +10,8 @@ mod parsing;
 #[cfg(test)]
 mod sources;
 #[cfg(test)]
+mod spans;
+#[cfg(test)]
 mod spelling;
 #[cfg(test)]
 mod tree_tokens;

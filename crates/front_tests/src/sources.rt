@@ -9,7 +9,7 @@ use mo_unparse::{spell, unparse};
 use std::alloc::Global;
 use std::test::Fail;
 
-fn tree_of(alloc: Global, source: &[u8]) -> Result<Tree, Fail> {
+pub fn tree_of(alloc: Global, source: &[u8]) -> Result<Tree, Fail> {
     let Ok(tokens) = lex(alloc, source) else {
         return Err(Fail::from("no tokens"));
     };
@@ -129,6 +129,119 @@ fn forms(rt: HostRuntime) -> Result<(), Fail> {
         "actor { for (x in [var 1, 2].vals()) { a[1] := 9 }; #t; #t 1; #t (1, 2); a#b; a # #b; return #err \"x\" }",
     ] {
         assert!(rt; comes_back(rt.alloc(), source.as_bytes())?, "{source}");
+    }
+    Ok(())
+}
+
+// Each source below has one form that no other one has.
+#[test]
+fn forms_of_expressions(rt: HostRuntime) -> Result<(), Fail> {
+    for source in [
+        "actor { label l : Nat { 1 } }",
+        "actor { label l { break l 1 } }",
+        "actor { let a = actor (\"aaaaa-aa\") }",
+        "actor { a *= b }",
+        "actor { a /= b }",
+        "actor { a %= b }",
+        "actor { a **= b }",
+        "actor { a #= b }",
+        "actor { a +%= b }",
+        "actor { a -%= b }",
+        "actor { a *%= b }",
+        "actor { a +% b }",
+        "actor { a -% b }",
+        "actor { a *% b }",
+        "actor { a : A : B }",
+        "actor { 'c' }",
+        "actor { 0x1F }",
+        "actor { a.x := b }",
+        "actor { let f = func (x) = x }",
+        "actor { let f = func x { x } }",
+        "actor { func f x { x } }",
+        "actor { await ? x }",
+        "actor { let a = { a = 1 } and { b = 2 } }",
+        "actor { let a = { var x : A } }",
+        "actor { f<>(x) }",
+    ] {
+        assert!(rt; comes_back(rt.alloc(), source.as_bytes())?, "{source}");
+    }
+    Ok(())
+}
+
+#[test]
+fn forms_of_patterns(rt: HostRuntime) -> Result<(), Fail> {
+    for source in [
+        "actor { let a or b or c = e }",
+        "actor { let (a : A) or b : B = e }",
+        "actor { switch x { case -1 y } }",
+        "actor { try x catch -1 y }",
+        "actor { let #a #b = e }",
+        "actor { let #a ? x = e }",
+        "actor { let ??x = e }",
+        "actor { let {x; y = p} = e }",
+        "actor { switch x { case (#call_error {err_code = 2}) y } }",
+    ] {
+        assert!(rt; comes_back(rt.alloc(), source.as_bytes())?, "{source}");
+    }
+    Ok(())
+}
+
+#[test]
+fn forms_of_types(rt: HostRuntime) -> Result<(), Fail> {
+    for source in [
+        "actor { type T = { # } }",
+        "actor { type T = { } }",
+        "actor { type T = object { x : A } }",
+        "actor { type T = ??A }",
+        "actor { type T = async ?A }",
+        "actor { type T = async (shared () -> A) }",
+        "actor { type T = F<A, B> }",
+        "actor { type T = F<> }",
+        "actor { type T<> = A }",
+        "actor { func f<>() { } }",
+    ] {
+        assert!(rt; comes_back(rt.alloc(), source.as_bytes())?, "{source}");
+    }
+    Ok(())
+}
+
+#[test]
+fn forms_of_programs(rt: HostRuntime) -> Result<(), Fail> {
+    for source in [
+        "import X = \"lib\"; actor { }",
+        "actor { public shared query func f() : A { } }",
+        "actor { public query (c) func f() : A { } }",
+        "actor { public query {caller = c} func f() : A { } }",
+        "actor { private stable var x = e }",
+        "actor { system func f() = e }",
+        "actor { public func f x : A = e }",
+    ] {
+        assert!(rt; comes_back(rt.alloc(), source.as_bytes())?, "{source}");
+    }
+    Ok(())
+}
+
+// Where the reading stops. An `async` takes no function type without parentheses, `<` and `>` with blanks are comparisons, and a
+// separator stands in no empty list.
+#[test]
+fn refused_forms(rt: HostRuntime) -> Result<(), Fail> {
+    for (source, place) in [
+        ("actor { type T = async shared () -> A }", 23),
+        ("actor { type T = T < A > }", 19),
+        ("actor { f < A > (x) }", 14),
+        ("actor { f(,) }", 10),
+        ("actor { type T = { ; } }", 19),
+        ("actor { let { ; } = e }", 14),
+        ("actor { let a = { ; } }", 18),
+        ("actor { switch x { ; } }", 19),
+        ("actor { type T = { #a; # } }", 23),
+    ] {
+        let tokens = lex(rt.alloc(), source.as_bytes()).ok().ok_or("no tokens")?;
+        let found = parse(rt.alloc(), tokens.as_slice()).err();
+        assert!(rt;
+            found == Some(ParseFault::Syntax(place)),
+            "{source}: {found:?}"
+        );
     }
     Ok(())
 }
