@@ -1,19 +1,7 @@
 //! The rules of names one by one, on small sources: the fault and its place, or none where the rule is kept.
-use crate::trees::tree_of;
+use crate::faults::{at, fault_of};
 use mo_names::NameFault;
-use mo_order::resolve;
-use mo_syntax::Place;
-use std::alloc::Global;
 use std::test::Fail;
-
-fn at(start: u32, end: u32) -> Place {
-    Place { start, end }
-}
-
-/// The fault of the names of a source that is read.
-fn fault_of(alloc: Global, source: &str) -> Result<Option<NameFault>, Fail> {
-    Ok(resolve(alloc, &tree_of(alloc, source)?).err())
-}
 
 // A name means something where it is used.
 #[test]
