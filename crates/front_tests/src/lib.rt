@@ -1,4 +1,4 @@
-//! Tests of the front end: tokens, trees, and texts of trees.
+//! Tests of the front end: tokens, trees, the places of their parts, and texts of trees.
 #![tactic(auto)]
 
 #[cfg(test)]
