@@ -1,4 +1,5 @@
 pub mod Questions
 pub mod Pairs
+pub mod Labels
 pub mod Certificate
 pub mod Renamed

@@ -1,8 +1,8 @@
 //! The questions that a question leads to.
-ghost use Rattle.std.specs.Prelude.{◌≡◌, ◌&&◌, ◌||◌, IfOk, Some, nat_eq};
+ghost use Rattle.std.specs.Prelude.{◌≡◌, ◌&&◌, ◌||◌, IfOk, IfSome, Some, nat_eq};
 ghost use Rattle.mo_types.specs.Heads.{is_any, is_null, map_option, opt_of};
 ghost use Rattle.mo_types.specs.Layout.{kind_number, sort_number};
-ghost use Rattle.mo_types.specs.Sub.{find};
+ghost use Rattle.mo_subtype.specs.Labels.{Indexes};
 ghost use Rattle.mo_subtype.specs.Certificate.{Adds};
 ghost use Rattle.mo_subtype.specs.Questions.{
   both_ways,
@@ -25,6 +25,7 @@ ghost use Rattle.mo_subtype.specs.Questions.{
 };
 
 use crate::Pair;
+use crate::labels::{Index, find, index_for};
 use mo_num::{Kind, Memory};
 use mo_types::{Field, Node, Sort, TypeId, kind_number, sort_number};
 
@@ -35,18 +36,6 @@ fn number_below(low: Kind, high: Kind) -> bool
     let below = kind_number(low);
     let above = kind_number(high);
     below == above || (below == 0 && above == 1)
-}
-
-/// The field of this label.
-fn find<'a>(fields: &'a [Field], label: &[u8]) -> Option<&'a Field>
-    ensures { map_option (λ f. f.now) result ≡ find label.now fields.now }
-{
-    for field in fields {
-        if field.label.as_slice() == label {
-            return Some(field);
-        }
-    }
-    None
 }
 
 /// No question, where the condition holds.
@@ -101,47 +90,87 @@ fn ask_field(low: &Field, high: &Field, out: &mut Vec<Pair>) -> Result<bool, Mem
 }
 
 /// The field of the same label, if there is one, stands where this one is asked.
-fn ask_found(low: &[Field], field: &Field, out: &mut Vec<Pair>) -> Result<bool, Memory>
+fn ask_found(
+    low: &[Field],
+    index: &Option<Index<'_>>,
+    field: &Field,
+    out: &mut Vec<Pair>,
+) -> Result<bool, Memory>
+    requires { IfSome index.now (λ i. Indexes i low.now) }
     ensures { IfOk result (λ yes. Adds (found_questions low.now field.now) yes out.old.items out.new.items) }
 {
-    match find(low, field.label.as_slice()) {
+    match find(low, index, field.label.as_slice()) {
         Some(found) => ask_field(found, field, out),
         None => Ok(false),
     }
 }
 
 /// Each field above is there below.
-fn ask_fields(low: &[Field], high: &[Field], out: &mut Vec<Pair>) -> Result<bool, Memory>
+fn ask_each_field(
+    low: &[Field],
+    index: &Option<Index<'_>>,
+    high: &[Field],
+    out: &mut Vec<Pair>,
+) -> Result<bool, Memory>
+    requires { IfSome index.now (λ i. Indexes i low.now) }
     ensures { IfOk result (λ yes. Adds (fields_questions low.now high.now) yes out.old.items out.new.items) }
 {
     for field in high {
-        if !ask_found(low, field, out)? {
+        if !ask_found(low, index, field, out)? {
             return Ok(false);
         }
     }
     Ok(true)
 }
 
+/// As `ask_each_field`, with an index of the fields below where they are many.
+fn ask_fields(low: &[Field], high: &[Field], out: &mut Vec<Pair>) -> Result<bool, Memory>
+    ensures { IfOk result (λ yes. Adds (fields_questions low.now high.now) yes out.old.items out.new.items) }
+{
+    let index = index_for(*out.allocator(), low, high.len())?;
+    ask_each_field(low, &index, high, out)
+}
+
 /// The tag of the same label, if there is one, stands above this one.
-fn ask_tag(high: &[Field], tag: &Field, out: &mut Vec<Pair>) -> Result<bool, Memory>
+fn ask_tag(
+    high: &[Field],
+    index: &Option<Index<'_>>,
+    tag: &Field,
+    out: &mut Vec<Pair>,
+) -> Result<bool, Memory>
+    requires { IfSome index.now (λ i. Indexes i high.now) }
     ensures { IfOk result (λ yes. Adds (tag_questions high.now tag.now) yes out.old.items out.new.items) }
 {
-    match find(high, tag.label.as_slice()) {
+    match find(high, index, tag.label.as_slice()) {
         Some(found) => ask_one(tag.part, found.part, out),
         None => Ok(false),
     }
 }
 
 /// Each tag below is there above.
-fn ask_tags(low: &[Field], high: &[Field], out: &mut Vec<Pair>) -> Result<bool, Memory>
+fn ask_each_tag(
+    low: &[Field],
+    high: &[Field],
+    index: &Option<Index<'_>>,
+    out: &mut Vec<Pair>,
+) -> Result<bool, Memory>
+    requires { IfSome index.now (λ i. Indexes i high.now) }
     ensures { IfOk result (λ yes. Adds (tags_questions low.now high.now) yes out.old.items out.new.items) }
 {
     for tag in low {
-        if !ask_tag(high, tag, out)? {
+        if !ask_tag(high, index, tag, out)? {
             return Ok(false);
         }
     }
     Ok(true)
+}
+
+/// As `ask_each_tag`, with an index of the tags above where they are many.
+fn ask_tags(low: &[Field], high: &[Field], out: &mut Vec<Pair>) -> Result<bool, Memory>
+    ensures { IfOk result (λ yes. Adds (tags_questions low.now high.now) yes out.old.items out.new.items) }
+{
+    let index = index_for(*out.allocator(), high, low.len())?;
+    ask_each_tag(low, high, &index, out)
 }
 
 /// The sorts are equal, the parameters go the other way, the results go the same way.

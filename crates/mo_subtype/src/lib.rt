@@ -2,6 +2,7 @@
 #![tactic(auto)]
 
 mod ask;
+mod labels;
 mod laws;
 mod pairs;
 mod search;

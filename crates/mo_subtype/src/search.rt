@@ -89,8 +89,9 @@ fn turn(
     Ok(true)
 }
 
-/// Whether `low` is a subtype of `high`: Motoko language manual, section "Subtyping". Takes time and memory by the
-/// pairs that the question leads to.
+/// Whether `low` is a subtype of `high`: Motoko language manual, section "Subtyping". Takes expected time by the pairs
+/// that the question leads to, each with as many steps as its two types have fields and parts, and memory by the pairs
+/// and the fields of one type.
 pub fn subtype(
     alloc: Global,
     types: &TypeGraph,

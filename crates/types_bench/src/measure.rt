@@ -1,5 +1,5 @@
 //! Questions, by the clock.
-use crate::question::lists;
+use crate::question::{Question, lists, objects};
 use mo_subtype::{Verdict, subtype};
 use std::alloc::Global;
 use std::io;
@@ -12,15 +12,31 @@ const TRIES: u32 = 10;
 
 /// Prints a line for each question.
 pub fn all(rt: &(impl Clock + Print), alloc: Global) -> io::Result<()> {
-    report(rt, alloc, 500, 500)?;
-    report(rt, alloc, 1_000, 1_000)?;
-    report(rt, alloc, 1, 1_000)?;
-    report(rt, alloc, 1, 2_000)
+    report_lists(rt, alloc, 500, 500)?;
+    report_lists(rt, alloc, 1_000, 1_000)?;
+    report_lists(rt, alloc, 1, 1_000)?;
+    report_lists(rt, alloc, 1, 2_000)?;
+    report_objects(rt, alloc, 10_000)?;
+    report_objects(rt, alloc, 20_000)
 }
 
 // Asks whether one list is below another that has as many types in all.
-fn report(rt: &(impl Clock + Print), alloc: Global, low: u32, high: u32) -> io::Result<()> {
+fn report_lists(rt: &(impl Clock + Print), alloc: Global, low: u32, high: u32) -> io::Result<()> {
     let question = lists(alloc, low, high).map_err(|_| io::Error::from(ErrorKind::OutOfMemory))?;
+    let (micros, pairs) = measured(rt, alloc, &question)?;
+    let nodes = question.types.len();
+    println!(rt; "{nodes} types, {pairs} pairs: {micros} µs")
+}
+
+// Asks whether one object is below another of as many fields.
+fn report_objects(rt: &(impl Clock + Print), alloc: Global, fields: u32) -> io::Result<()> {
+    let question = objects(alloc, fields).map_err(|_| io::Error::from(ErrorKind::OutOfMemory))?;
+    let (micros, pairs) = measured(rt, alloc, &question)?;
+    println!(rt; "2 objects of {fields} fields, {pairs} pairs: {micros} µs")
+}
+
+// The microseconds that the question takes, and the pairs that its answer rests on.
+fn measured(rt: &impl Clock, alloc: Global, question: &Question) -> io::Result<(u128, usize)> {
     let mut time = Duration::MAX;
     let mut pairs = 0;
     for _ in 0..TRIES {
@@ -35,7 +51,5 @@ fn report(rt: &(impl Clock + Print), alloc: Global, low: u32, high: u32) -> io::
             pairs = found.len();
         }
     }
-    let micros = time.as_micros();
-    let nodes = question.types.len();
-    println!(rt; "{nodes} types, {pairs} pairs: {micros} µs")
+    Ok((time.as_micros(), pairs))
 }

@@ -1,6 +1,6 @@
-//! Recursive types that are written out many times.
-use mo_num::{Kind, Sequence};
-use mo_types::{Node, TypeGraph, TypeId, TypesFault};
+//! Recursive types that are written out many times, and objects of many fields.
+use mo_num::{Bytes, Kind, Sequence};
+use mo_types::{Field, Node, TypeGraph, TypeId, TypesFault};
 use std::alloc::Global;
 
 /// A question of subtyping.
@@ -40,4 +40,36 @@ fn number_and(alloc: Global, types: &mut TypeGraph, rest: TypeId) -> Result<Type
     parts.push(number)?;
     parts.push(rest)?;
     types.intern(Node::Tuple(Sequence::from_vec(parts)))
+}
+
+/// Whether one object is below another, both of so many fields under the same labels, of Nat in the one and of Int in the
+/// other.
+pub fn objects(alloc: Global, fields: u32) -> Result<Question, TypesFault> {
+    let mut types = TypeGraph::new(alloc);
+    let low = object_of(alloc, &mut types, Kind::Nat, fields)?;
+    let high = object_of(alloc, &mut types, Kind::Int, fields)?;
+    Ok(Question { types, low, high })
+}
+
+fn object_of(
+    alloc: Global,
+    types: &mut TypeGraph,
+    kind: Kind,
+    count: u32,
+) -> Result<TypeId, TypesFault> {
+    let part = types.intern(Node::Number(kind))?;
+    let mut fields = Vec::new(alloc);
+    for number in 0..count {
+        fields.push(field(alloc, number, part)?)?;
+    }
+    types.intern(Node::Object(Sequence::from_vec(fields)))
+}
+
+fn field(alloc: Global, number: u32, part: TypeId) -> Result<Field, TypesFault> {
+    let label = format!(in alloc; "field_{number}").map_err(|_| TypesFault::Memory)?;
+    Ok(Field {
+        label: Bytes::from_vec(label.into_bytes()),
+        mutable: false,
+        part,
+    })
 }

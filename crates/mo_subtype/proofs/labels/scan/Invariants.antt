@@ -1,6 +1,6 @@
 use Rattle.std.proofs.Common.{◌≡◌, drop}
 use Rattle.mo_types.specs.Sub.{find}
-use Rattle.mo_subtype.proofs.ask.find.Given as goal
+use Rattle.mo_subtype.proofs.labels.scan.Given as goal
 
 abbrev pub invariant-loop-field : goal.invariant-loop-field
 invariant-loop-field l = find l.label l.fields ≡ find l.label (drop l.field-index l.fields)
