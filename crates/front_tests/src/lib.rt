@@ -12,4 +12,6 @@ mod sources;
 #[cfg(test)]
 mod spelling;
 #[cfg(test)]
+mod stack;
+#[cfg(test)]
 mod tree_tokens;
