@@ -14,4 +14,6 @@ mod spans;
 #[cfg(test)]
 mod spelling;
 #[cfg(test)]
+mod stack;
+#[cfg(test)]
 mod tree_tokens;

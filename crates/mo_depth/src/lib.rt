@@ -5,8 +5,10 @@ mod deep;
 mod frame;
 mod nesting;
 mod role;
+mod stack;
 mod steps;
 
 pub use deep::{MOST, first_deep};
 pub use frame::Frame;
 pub use role::Role;
+pub use stack::{MOST_OPEN, ask_for_stack};

@@ -2,6 +2,7 @@
 ghost use Rattle.std.specs.Prelude.{◌≡◌, ◌≤◌, IfOk};
 ghost use Rattle.mo_depth.specs.Depth as spec;
 ghost use Rattle.mo_depth.specs.Nested.{standing};
+ghost use Rattle.mo_depth.specs.Stack as stack;
 
 use crate::frame::Frame;
 use crate::nesting::Nesting;
@@ -36,7 +37,7 @@ impl Nesting {
     }
 
     fn open(self, close: Mark) -> Result<Nesting, Memory>
-        requires { self.depth ≤ 400 }
+        requires { self.depth ≤ 1000 }
         ensures { IfOk result (λ next. standing next ≡ spec.opened (standing self) close) }
     {
         let Nesting {
@@ -56,7 +57,7 @@ impl Nesting {
     }
 
     fn count(self) -> Nesting
-        requires { self.depth ≤ 400 }
+        requires { self.depth ≤ 1000 }
         ensures { standing result ≡ spec.counted (standing self) }
     {
         let Nesting {
@@ -93,7 +94,7 @@ impl Nesting {
     }
 
     fn leave(self) -> Nesting
-        requires { self.depth ≤ 400 }
+        requires { self.depth ≤ 1000 }
         ensures { standing result ≡ spec.left (standing self) }
     {
         let Nesting {
@@ -122,7 +123,7 @@ impl Nesting {
     }
 
     fn close(self, mark: Mark) -> Nesting
-        requires { self.depth ≤ 400 }
+        requires { self.depth ≤ 1000 }
         ensures { standing result ≡ spec.closed (standing self) mark }
     {
         if closes(&self.inner, mark) {
@@ -132,8 +133,46 @@ impl Nesting {
         }
     }
 
+    fn drop_inner(self) -> Nesting
+        ensures at { standing result ≡ stack.without_inner (standing self) }
+        ensures below { result.depth ≤ self.depth }
+    {
+        let Nesting {
+            inner,
+            mut outer,
+            depth,
+        } = self;
+        match outer.pop_front() {
+            Some(frame) => Nesting {
+                inner: frame,
+                outer,
+                depth: depth - inner.count - 1,
+            },
+            None => Nesting {
+                inner,
+                outer,
+                depth,
+            },
+        }
+    }
+
+    /// Out of each `<` that stands open in the innermost bracket `( [ {`, or in the whole text.
+    pub(crate) fn leave_angles(self) -> Nesting
+        ensures at { standing result ≡ stack.outside_angles (standing self) }
+        ensures below { result.depth ≤ self.depth }
+    {
+        let mut nesting = self;
+        for _turn in 0..nesting.outer.len() {
+            if !closes(&nesting.inner, Mark::AngleClose) {
+                return nesting;
+            }
+            nesting = nesting.drop_inner();
+        }
+        nesting
+    }
+
     pub(crate) fn step(self, role: Role) -> Result<Nesting, Memory>
-        requires { self.depth ≤ 400 }
+        requires { self.depth ≤ 1000 }
         ensures { IfOk result (λ next. standing next ≡ spec.step (standing self) role) }
     {
         match role {

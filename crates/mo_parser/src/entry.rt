@@ -8,7 +8,7 @@ ghost use Rattle.mo_parser.specs.Answers.{Answers, Finds, IsPlace, IsRead};
 
 use crate::fault::ParseFault;
 use crate::program::program;
-use mo_depth::first_deep;
+use mo_depth::{ask_for_stack, first_deep};
 use mo_parser_base::{Cursor, Stop};
 use mo_syntax::{Token, Tree};
 use std::alloc::Global;
@@ -39,6 +39,7 @@ fn shallow(alloc: Global, tokens: &[Token]) -> Result<Tree, ParseFault>
 }
 
 /// The tree that spells the tokens, or the fault: `TooDeep` where a token stands too deep, and else `Syntax` where no tree spells them.
+/// `Memory` where there was none for the tree, or where the native stack might not hold the reading: `ask_for_stack` says when.
 pub fn parse(alloc: Global, tokens: &[Token]) -> Result<Tree, ParseFault>
     ensures answers { Answers tokens.now result }
     ensures found { IfOk result (λ tree. Spells tree (kinds tokens.now)) }
@@ -46,6 +47,9 @@ pub fn parse(alloc: Global, tokens: &[Token]) -> Result<Tree, ParseFault>
 {
     match first_deep(alloc, tokens)? {
         Some(place) => Err(ParseFault::TooDeep(place)),
-        None => shallow(alloc, tokens),
+        None => {
+            ask_for_stack(alloc, tokens)?;
+            shallow(alloc, tokens)
+        }
     }
 }

@@ -1,0 +1,185 @@
+//! Sources whose reading could take more of the native stack than there is, and others close to them. How many constructs are open at a token
+//! was counted by hand.
+use mo_lexer::lex;
+use mo_num::Bytes;
+use mo_parser::{ParseFault, parse};
+use mo_syntax::tokens;
+use mo_unparse::unparse;
+use std::alloc::Global;
+use std::process::Abort;
+use std::test::Fail;
+
+/// A source in which two pieces stand many times.
+#[derive(Clone, Copy)]
+struct Nest {
+    head: &'static [u8],
+    open: &'static [u8],
+    middle: &'static [u8],
+    close: &'static [u8],
+    tail: &'static [u8],
+}
+
+// Types in the arguments of a type.
+const ARGUMENTS: Nest = Nest {
+    head: b"actor { type X = ",
+    open: b"F<A,",
+    middle: b"A",
+    close: b",A>",
+    tail: b" }",
+};
+
+// Functions between types.
+const FUNCTIONS: Nest = Nest {
+    head: b"actor { type X = ",
+    open: b"F<A,A>->",
+    middle: b"A",
+    close: b"",
+    tail: b" }",
+};
+
+// Each `else` has the next `if`.
+const CHOICES: Nest = Nest {
+    head: b"actor { let x = ",
+    open: b"if c f<A,A>() else ",
+    middle: b"1",
+    close: b"",
+    tail: b" }",
+};
+
+// Each call is of what the one before it gave.
+const CALLS: Nest = Nest {
+    head: b"actor { let x = x",
+    open: b"<A,A>()",
+    middle: b"",
+    close: b"",
+    tail: b" }",
+};
+
+impl Nest {
+    fn source(&self, alloc: Global, count: usize) -> Result<Bytes, Fail> {
+        let mut source = Bytes::from_slice(alloc, self.head)?;
+        for _ in 0..count {
+            source.extend(self.open)?;
+        }
+        source.extend(self.middle)?;
+        for _ in 0..count {
+            source.extend(self.close)?;
+        }
+        source.extend(self.tail)?;
+        Ok(source)
+    }
+}
+
+// Why the source has no tree. One that has is written as tokens and as a text, and dropped.
+fn fault_of(alloc: Global, source: &[u8]) -> Result<Option<ParseFault>, Fail> {
+    let read = lex(alloc, source).ok().ok_or("no tokens")?;
+    match parse(alloc, read.as_slice()) {
+        Ok(tree) => {
+            let written = tokens(alloc, &tree)?;
+            if written.len() != read.len() || unparse(alloc, &tree)?.is_empty() {
+                return Err(Fail::from("other tokens"));
+            }
+            Ok(None)
+        }
+        Err(fault) => Ok(Some(fault)),
+    }
+}
+
+// Before the first piece 6 constructs may be open: two in the whole text, and four in the actor. A `F<A,` opens two more and a `F<A,A>->` four,
+// an `if` eight and a call four. The token behind them counts one.
+#[test]
+fn at_the_limit(rt: HostRuntime) -> Result<(), Fail> {
+    let alloc = rt.alloc();
+    for (nest, most) in [
+        (ARGUMENTS, 496),
+        (FUNCTIONS, 248),
+        (CHOICES, 124),
+        (CALLS, 248),
+    ] {
+        let held = nest.source(alloc, most)?;
+        assert_eq!(rt; fault_of(alloc, held.as_slice())?, None, "{most}");
+        let more = nest.source(alloc, most + 1)?;
+        assert_eq!(rt;
+            fault_of(alloc, more.as_slice())?,
+            Some(ParseFault::Memory),
+            "{most}"
+        );
+    }
+    Ok(())
+}
+
+fn expect_memory(rt: &impl Abort, alloc: Global, nest: &Nest, count: usize) -> Result<(), Fail> {
+    let source = nest.source(alloc, count)?;
+    assert_eq!(rt;
+        fault_of(alloc, source.as_slice())?,
+        Some(ParseFault::Memory),
+        "{count}"
+    );
+    Ok(())
+}
+
+#[test]
+fn many_arguments(rt: HostRuntime) -> Result<(), Fail> {
+    expect_memory(&rt, rt.alloc(), &ARGUMENTS, 100_000)
+}
+
+#[test]
+fn many_functions(rt: HostRuntime) -> Result<(), Fail> {
+    expect_memory(&rt, rt.alloc(), &FUNCTIONS, 120_000)
+}
+
+#[test]
+fn many_choices(rt: HostRuntime) -> Result<(), Fail> {
+    expect_memory(&rt, rt.alloc(), &CHOICES, 50_000)
+}
+
+#[test]
+fn many_calls(rt: HostRuntime) -> Result<(), Fail> {
+    expect_memory(&rt, rt.alloc(), &CALLS, 140_000)
+}
+
+// No tree spells this one, of which no `<` is closed.
+#[test]
+fn many_open_arguments(rt: HostRuntime) -> Result<(), Fail> {
+    let open = Nest {
+        middle: b"",
+        close: b"",
+        tail: b"",
+        ..ARGUMENTS
+    };
+    expect_memory(&rt, rt.alloc(), &open, 200_000)
+}
+
+// A `<` that is not closed counts up to the next `;` or to the end of the bracket around it, and what a `,` ends counts no more.
+#[test]
+fn what_does_not_count(rt: HostRuntime) -> Result<(), Fail> {
+    let alloc = rt.alloc();
+    let repeated: [(&[u8], &[u8], Option<ParseFault>); 5] = [
+        (b"let x = a <b; ", b"}", Some(ParseFault::Syntax(20))),
+        (b"f(a <b); ", b"}", Some(ParseFault::Syntax(14))),
+        (b"let y = f<A,A>(); ", b"}", None),
+        (b"let y = [f<A,A>(1, 2), g<F<A,A>>(3)]; ", b"}", None),
+        (b"type X<A,B,C> = F<A,F<B,C>,F<B,C>>; ", b"}", None),
+    ];
+    for (piece, tail, want) in repeated {
+        let nest = Nest {
+            head: b"actor { ",
+            open: piece,
+            middle: b"",
+            close: b"",
+            tail,
+        };
+        let source = nest.source(alloc, 2_000)?;
+        assert_eq!(rt; fault_of(alloc, source.as_slice())?, want);
+    }
+    let flat = Nest {
+        head: b"actor { type X = F<",
+        open: b"A,",
+        middle: b"A> }",
+        close: b"",
+        tail: b"",
+    };
+    let source = flat.source(alloc, 5_000)?;
+    assert_eq!(rt; fault_of(alloc, source.as_slice())?, None);
+    Ok(())
+}
