@@ -212,7 +212,7 @@ fn variants_and_functions(rt: HostRuntime) {
     expect_of(&rt, rt.alloc(), &VARIANTS_AND_FUNCTIONS, rows);
 }
 
-// The types without parts, and those above and below all.
+// Any, None and Error beside other types, and in options and functions.
 const TOP_AND_BOTTOM: Table = Table {
     forms: &[
         Form::Number(Kind::Nat),
