@@ -3,7 +3,7 @@ use Rattle.std.proofs.Common.{◌≡◌, ℕ, zero, suc, ◌<◌, ◌≤◌, Boo
 use Rattle.mo_types.specs.Calls.{Call, Open, Answered, Lost, HasRoom, OwnsOpen, is_open_state, open_count, set_state, state_of}
 use Rattle.mo_types.specs.Sub.{Sub, IsSubtype}
 use Rattle.mo_subtype.specs.Certificate.{Fails}
-use Rattle.type_tests.specs.Examples.{Small, ANat, AText, AUnit, AnAny, AnInt, Asked, Inner, IntCell, Loop, Narrow, NatCell, Outcome, Pair, Single, Success, Twice, Wide, open_calls, small_head, two_calls}
+use Rattle.type_tests.specs.Examples.{Small, ANat, AText, AUnit, AnAny, AnInt, Asked, Inner, IntCell, Loop, Narrow, NatCell, Outcome, Pair, ParameterT, ParameterU, Single, Success, Twice, Wide, open_calls, small_head, two_calls}
 
 mutual
   unfolding Sub
@@ -62,6 +62,22 @@ asked_any : (n : ℕ) → Sub small_head n Asked AnAny
 unfolding Sub
 asked_any zero = tt
 asked_any (suc n) = inl refl
+
+t_t : (n : ℕ) → Sub small_head n ParameterT ParameterT
+unfolding Sub
+t_t zero = tt
+t_t (suc n) = inr tt
+
+t_int : (n : ℕ) → Sub small_head n ParameterT AnInt
+unfolding Sub
+t_int zero = tt
+t_int (suc n) = inr (nat_int n)
+
+pub own_parameter : IsSubtype small_head ParameterT ParameterT
+own_parameter = record { by = t_t }
+
+pub bound_below : IsSubtype small_head ParameterT AnInt
+bound_below = record { by = t_int }
 
 pub loop_below : IsSubtype small_head Loop Twice
 loop_below = record { by = loop_twice }
@@ -129,6 +145,25 @@ unfolding Sub
 wide_narrow (inl h) = cc
 wide_narrow (inr h) = int_nat h.1.0
 
+nat_t : Sub small_head 1 ANat ParameterT → ⊥
+unfolding Sub
+nat_t (inl h) = cc
+nat_t (inr h) = h
+
+nat_u : Sub small_head 1 ANat ParameterU → ⊥
+unfolding Sub
+nat_u (inl h) = cc
+nat_u (inr h) = h
+
+t_u : Sub small_head 2 ParameterT ParameterU → ⊥
+unfolding Sub
+t_u (inl h) = cc
+t_u (inr h) = nat_u h
+
+t_u_head : Sub small_head 1 ParameterT ParameterU
+unfolding Sub
+t_u_head = inr tt
+
 nat_cell_head : Sub small_head 1 NatCell IntCell
 unfolding Sub
 nat_cell_head = inr ((tt, tt), tt)
@@ -161,6 +196,12 @@ int_cell_fails = record { at = int_cell; less = at_one IntCell NatCell int_cell_
 
 pub wide_fails : Fails small_head Wide Narrow 2
 wide_fails = record { at = wide_narrow; less = at_one Wide Narrow wide_head }
+
+pub parameter_fails : Fails small_head ANat ParameterT 1
+parameter_fails = record { at = nat_t; less = at_zero ANat ParameterT }
+
+pub other_parameter_fails : Fails small_head ParameterT ParameterU 2
+other_parameter_fails = record { at = t_u; less = at_one ParameterT ParameterU t_u_head }
 
 -- ---- calls
 

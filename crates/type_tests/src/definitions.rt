@@ -1,14 +1,16 @@
 //! Small examples of the definitions of types, computed by the checker.
-ghost use Rattle.std.specs.Prelude.{◌≡◌, ◌<◌, ◌≤◌, ℕ, [], ◌∷◌, Some, slice_get};
+ghost use Rattle.std.specs.Prelude.{◌≡◌, ◌<◌, ◌≤◌, ℕ, List, [], ◌∷◌, Some, slice_get};
 ghost use Rattle.mo_types.specs.declared.wire.Plain.TheVariants as plain;
 ghost use Rattle.mo_types.specs.declared.wire.Ref.TheVariants.{Just, Of};
 ghost use Rattle.mo_types.specs.declared.wire.Wire.TheVariants.{Func, Record, Simple, Variant, Vec};
 ghost use Rattle.mo_types.specs.Calls.{Answered, HasRoom, IsOpen, Lost, OwnsOpen, open_count, set_state, state_of};
+ghost use Rattle.mo_types.specs.Code.{Keep, Reads, StableBytes};
 ghost use Rattle.mo_types.specs.Form.{form};
 ghost use Rattle.mo_types.specs.Sub.{IsSubtype};
+ghost use Rattle.mo_types.specs.Values.{Values};
 ghost use Rattle.mo_types.specs.Wire.{wire};
 ghost use Rattle.mo_subtype.specs.Certificate.{Fails};
-ghost use Rattle.type_tests.specs.Examples.{ABlob, ANat, AText, AUnit, AnAny, AnInt, Asked, Inner, IntCell, Loop, Narrow, NatCell, Outcome, Pair, Single, Success, Twice, Wide, entry, forms, open_calls, small_head, two_calls, values};
+ghost use Rattle.type_tests.specs.Examples.{ABlob, AChar, ANat, ANat32, AText, AUnit, AnAny, AnInt, Asked, ByteArray, Inner, IntCell, Loop, Narrow, NatCell, Outcome, Pair, ParameterT, ParameterU, Single, Success, Twice, Wide, byte_array, byte_blob, entry, forms, message_of_seven, open_calls, saved_memory, seven, small_head, surrogate, surrogate_char, two_calls, values, variable_ok, variable_x};
 
 /// `type A = ?A` and `type B = ?(?B)` are subtypes of each other.
 #[tactic(auto, using(crate::proofs::Examples::loop_below, crate::proofs::Examples::loop_above))]
@@ -38,6 +40,15 @@ pub fn subtypes_by_their_parts()
     ensures any { IsSubtype small_head Asked AnAny }
 {}
 
+/// A type parameter is below itself, and where its bound is. It is not below another one, and its bound not below it.
+#[tactic(auto, using(crate::proofs::Examples::own_parameter, crate::proofs::Examples::bound_below, crate::proofs::Examples::other_parameter_fails, crate::proofs::Examples::parameter_fails))]
+pub fn type_parameters_are_below_their_bounds()
+    ensures own { IsSubtype small_head ParameterT ParameterT }
+    ensures bound { IsSubtype small_head ParameterT AnInt }
+    ensures other { Fails small_head ParameterT ParameterU 2 }
+    ensures below_bound { Fails small_head ANat ParameterT 1 }
+{}
+
 /// Blobs, tags in the order of their numbers, of which () stands as null, and queries.
 pub fn candid_types_of_types()
     ensures blob { wire small_head (Of ABlob) ≡ Vec (Just plain.Nat8) }
@@ -50,6 +61,27 @@ pub fn candid_types_of_types()
 /// The bytes of a Blob one by one, and null where () stands under a tag or at Any.
 pub fn candid_values_of_values()
     ensures { form small_head (ABlob ∷ Outcome ∷ AnAny ∷ []) values ≡ forms }
+{}
+
+/// An array of bytes is kept as a Blob, and the number of no character as no Char.
+#[tactic(auto, using(crate::proofs::Messages::array_kept, crate::proofs::Messages::surrogate_lost))]
+pub fn kept_values_have_their_types()
+    ensures blob { Keep small_head ByteArray ABlob byte_array byte_blob }
+    ensures surrogate { (w : Values) → Keep small_head ANat32 AChar surrogate w → ⊥ }
+{}
+
+/// A number is read also where it is padded. No message is one of such a character, or begins with another byte.
+#[tactic(auto, using(crate::proofs::Messages::seven_read, crate::proofs::Messages::surrogate_unread, crate::proofs::Messages::begins_with_magic))]
+pub fn some_messages_are_read()
+    ensures padded { Reads small_head (ANat ∷ []) message_of_seven seven }
+    ensures surrogate { (bytes : List ℕ) → Reads small_head (AChar ∷ []) bytes surrogate_char → ⊥ }
+    ensures magic { (b : ℕ) (bytes : List ℕ) (v : Values) → Reads small_head (ANat ∷ []) (b ∷ bytes) v → b ≡ 0x44 }
+{}
+
+/// Stable variables are saved in the order of the numbers of their names.
+#[tactic(auto, using(crate::proofs::Messages::variables_saved))]
+pub fn variables_are_saved_by_number()
+    ensures { StableBytes small_head (variable_ok ∷ variable_x ∷ []) saved_memory }
 {}
 
 /// Calls count while they are open.

@@ -7,9 +7,12 @@ mod graphs;
 #[cfg(test)]
 mod subtyping;
 pub mod tables;
+#[cfg(test)]
+mod wide;
 
 pub use definitions::{
     calls_count_while_they_are_open, calls_have_owners, candid_types_of_types,
     candid_values_of_values, failures_have_least_depths, five_hundred_calls_leave_no_room,
-    options_of_themselves_are_one_type, subtypes_by_their_parts,
+    kept_values_have_their_types, options_of_themselves_are_one_type, some_messages_are_read,
+    subtypes_by_their_parts, type_parameters_are_below_their_bounds, variables_are_saved_by_number,
 };

@@ -9,7 +9,7 @@ use std::process::Abort;
 
 /// An answer, without its list of pairs.
 #[derive(Clone, Copy, Debug, PartialEq, Eq)]
-enum Answer {
+pub(crate) enum Answer {
     Yes,
     /// The least depth at which it fails.
     No(u32),
@@ -37,7 +37,8 @@ fn asked(alloc: Global, types: &Types, low: usize, high: usize) -> Answer {
     }
 }
 
-fn expect(rt: &impl Abort, alloc: Global, types: &Types, rows: &[Row]) {
+/// Asks each row.
+pub(crate) fn expect(rt: &impl Abort, alloc: Global, types: &Types, rows: &[Row]) {
     for (low, high, wanted) in rows {
         assert_eq!(rt; asked(alloc, types, *low, *high), *wanted, "{low} {high}");
     }
@@ -209,6 +210,173 @@ fn variants_and_functions(rt: HostRuntime) {
         (5, 6, No(1)),
     ];
     expect_of(&rt, rt.alloc(), &VARIANTS_AND_FUNCTIONS, rows);
+}
+
+// Any, None and Error beside other types, and in options and functions.
+const TOP_AND_BOTTOM: Table = Table {
+    forms: &[
+        Form::Number(Kind::Nat),
+        Form::Any,
+        Form::Bottom,
+        Form::Error,
+        Form::Text,
+        Form::Null,
+        Form::Opt(1),
+        Form::Opt(2),
+        Form::Func(Sort::Local, &[1], &[2]),
+        Form::Func(Sort::Local, &[0], &[4]),
+    ],
+    definitions: &[],
+};
+
+#[test]
+fn any_and_none(rt: HostRuntime) {
+    let rows = &[
+        (0, 1, Yes),
+        (1, 1, Yes),
+        (2, 1, Yes),
+        (3, 1, Yes),
+        (8, 1, Yes),
+        (1, 0, No(1)),
+        (1, 2, No(1)),
+        (1, 6, No(1)),
+        (2, 0, Yes),
+        (2, 2, Yes),
+        (2, 3, Yes),
+        (2, 9, Yes),
+        (0, 2, No(1)),
+        (7, 6, Yes),
+        (6, 7, No(2)),
+        (5, 7, Yes),
+        (8, 9, Yes),
+        (9, 8, No(2)),
+    ];
+    expect_of(&rt, rt.alloc(), &TOP_AND_BOTTOM, rows);
+}
+
+#[test]
+fn errors(rt: HostRuntime) {
+    let rows = &[(3, 3, Yes), (3, 4, No(1)), (4, 3, No(1)), (3, 2, No(1))];
+    expect_of(&rt, rt.alloc(), &TOP_AND_BOTTOM, rows);
+}
+
+// `[T]`, `[var T]` and `async T` of Nat, and the same of Int.
+const ARRAYS_AND_FUTURES: Table = Table {
+    forms: &[
+        Form::Number(Kind::Nat),
+        Form::Number(Kind::Int),
+        Form::Array(0),
+        Form::Array(1),
+        Form::MutArray(0),
+        Form::MutArray(1),
+        Form::Async(0),
+        Form::Async(1),
+    ],
+    definitions: &[],
+};
+
+#[test]
+fn arrays(rt: HostRuntime) {
+    let rows = &[
+        (2, 2, Yes),
+        (2, 3, Yes),
+        (3, 2, No(2)),
+        (4, 4, Yes),
+        (4, 5, No(2)),
+        (5, 4, No(2)),
+        (4, 2, No(1)),
+        (2, 4, No(1)),
+        (2, 0, No(1)),
+    ];
+    expect_of(&rt, rt.alloc(), &ARRAYS_AND_FUTURES, rows);
+}
+
+#[test]
+fn futures(rt: HostRuntime) {
+    let rows = &[
+        (6, 6, Yes),
+        (6, 7, Yes),
+        (7, 6, No(2)),
+        (6, 0, No(1)),
+        (0, 6, No(1)),
+        (6, 2, No(1)),
+    ];
+    expect_of(&rt, rt.alloc(), &ARRAYS_AND_FUTURES, rows);
+}
+
+// Actors with a method that gives Nat, with that and another, with one that gives Int, and with none; an object.
+const ACTORS: Table = Table {
+    forms: &[
+        Form::Number(Kind::Nat),
+        Form::Number(Kind::Int),
+        Form::Func(Sort::Shared, &[], &[0]),
+        Form::Func(Sort::Shared, &[], &[1]),
+        Form::Actor(&[("f", 2)]),
+        Form::Actor(&[("g", 3), ("f", 2)]),
+        Form::Actor(&[("f", 3)]),
+        Form::Actor(&[]),
+        Form::Object(&[("f", 2)]),
+    ],
+    definitions: &[],
+};
+
+#[test]
+fn actors(rt: HostRuntime) {
+    let rows = &[
+        (4, 4, Yes),
+        (5, 4, Yes),
+        (4, 5, No(1)),
+        (4, 6, Yes),
+        (6, 4, No(3)),
+        (4, 7, Yes),
+        (7, 4, No(1)),
+        (4, 8, No(1)),
+        (8, 4, No(1)),
+    ];
+    expect_of(&rt, rt.alloc(), &ACTORS, rows);
+}
+
+// Two type parameters with the bound Nat, one whose bound is the first of them, and one with the bound Any.
+const PARAMETERS: Table = Table {
+    forms: &[
+        Form::Number(Kind::Nat),
+        Form::Number(Kind::Int),
+        Form::Text,
+        Form::Any,
+        Form::Bottom,
+        Form::Variable(0, 0),
+        Form::Variable(1, 0),
+        Form::Variable(2, 5),
+        Form::Variable(3, 3),
+        Form::Opt(5),
+        Form::Opt(0),
+    ],
+    definitions: &[],
+};
+
+#[test]
+fn type_parameters(rt: HostRuntime) {
+    let rows = &[
+        (5, 5, Yes),
+        (5, 0, Yes),
+        (5, 1, Yes),
+        (5, 3, Yes),
+        (5, 2, No(2)),
+        (5, 6, No(2)),
+        (0, 5, No(1)),
+        (4, 5, Yes),
+        (3, 5, No(1)),
+        (7, 5, Yes),
+        (7, 1, Yes),
+        (7, 6, No(3)),
+        (5, 7, No(2)),
+        (8, 8, Yes),
+        (8, 0, No(2)),
+        (8, 5, No(2)),
+        (9, 10, Yes),
+        (10, 9, No(2)),
+    ];
+    expect_of(&rt, rt.alloc(), &PARAMETERS, rows);
 }
 
 /// Adds types that are not defined, up to so many types in all.

@@ -1,4 +1,6 @@
 //! Graphs of types from tables.
+ghost use Rattle.std.specs.Prelude.{◌≡◌, [], slice_get};
+
 use mo_num::{Bytes, Kind, Sequence};
 use mo_types::{Field, Node, Sort, TypeGraph, TypeId, TypesFault};
 use std::alloc::Global;
@@ -15,11 +17,13 @@ pub enum Form {
     Text,
     Blob,
     Principal,
+    Error,
     Null,
     Any,
     Bottom,
     Opt(usize),
     Array(usize),
+    MutArray(usize),
     Tuple(&'static [usize]),
     Object(Labels),
     /// An object whose fields can all be written.
@@ -27,6 +31,9 @@ pub enum Form {
     Actor(Labels),
     Variant(Labels),
     Func(Sort, &'static [usize], &'static [usize]),
+    Async(usize),
+    /// A type parameter of this number, with its bound.
+    Variable(u32, usize),
     /// Not defined before the others are there.
     Fresh,
 }
@@ -46,7 +53,10 @@ pub struct Types {
 
 impl Types {
     /// No types.
-    pub fn new(alloc: Global) -> Types {
+    pub fn new(alloc: Global) -> Types
+        ensures graph { result.graph ≡ [] }
+        ensures ids { result.ids.items ≡ [] }
+    {
         Types {
             graph: TypeGraph::new(alloc),
             ids: Vec::new(alloc),
@@ -55,7 +65,9 @@ impl Types {
 }
 
 /// The type at a place.
-pub fn at(types: &Types, place: usize) -> Option<TypeId> {
+pub fn at(types: &Types, place: usize) -> Option<TypeId>
+    ensures { result ≡ slice_get types.now.ids.items place }
+{
     types.ids.get(place).copied()
 }
 
@@ -137,6 +149,7 @@ fn with_parts(alloc: Global, ids: &[TypeId], form: &Form) -> Option<Node> {
     match form {
         Form::Opt(part) => Some(Node::Opt(*ids.get(*part)?)),
         Form::Array(part) => Some(Node::Array(*ids.get(*part)?)),
+        Form::MutArray(part) => Some(Node::MutArray(*ids.get(*part)?)),
         Form::Tuple(places) => Some(Node::Tuple(parts(alloc, ids, places)?)),
         Form::Object(labels) => Some(Node::Object(fields(alloc, ids, false, labels)?)),
         Form::Cell(labels) => Some(Node::Object(fields(alloc, ids, true, labels)?)),
@@ -145,6 +158,8 @@ fn with_parts(alloc: Global, ids: &[TypeId], form: &Form) -> Option<Node> {
         Form::Func(sort, parameters, results) => {
             function(alloc, ids, *sort, parameters, results)
         }
+        Form::Async(part) => Some(Node::Async(*ids.get(*part)?)),
+        Form::Variable(number, bound) => Some(Node::Variable(*number, *ids.get(*bound)?)),
         _ => None,
     }
 }
@@ -158,6 +173,7 @@ pub fn node(alloc: Global, ids: &[TypeId], form: &Form) -> Option<Node> {
         Form::Text => Some(Node::Text),
         Form::Blob => Some(Node::Blob),
         Form::Principal => Some(Node::Principal),
+        Form::Error => Some(Node::Error),
         Form::Null => Some(Node::Null),
         Form::Any => Some(Node::Any),
         Form::Bottom => Some(Node::Bottom),
