@@ -1,5 +1,5 @@
 //! Looking up fields by their labels.
-ghost use Rattle.std.specs.Prelude.{◌≡◌, List, ℕ, Some, OnOk, IfOk, IfSome, cond};
+ghost use Rattle.std.specs.Prelude.{◌≡◌, List, ℕ, Some, OnOk, IfOk, IfSome, IsSome, ◌<◌, length, cond};
 ghost use Rattle.std.specs.Option.{option_copied};
 ghost use Rattle.std.specs.Str.{bytes_eq};
 ghost use Rattle.mo_types.specs.Sub.{find};
@@ -65,7 +65,8 @@ pub(crate) fn index_for<'a>(
     fields: &'a [Field],
     lookups: usize,
 ) -> Result<Option<Index<'a>>, Memory>
-    ensures { IfOk result (λ index. IfSome index (λ i. Indexes i fields.now)) }
+    ensures indexes { IfOk result (λ index. IfSome index (λ i. Indexes i fields.now)) }
+    ensures made { 16 < length fields.now → 16 < lookups → IfOk result (λ index. IsSome index) }
 {
     if fields.len() <= FEW || lookups <= FEW {
         return Ok(None);
