@@ -91,10 +91,10 @@ fn fault_of(alloc: Global, source: &[u8]) -> Result<Option<ParseFault>, Fail> {
 fn at_the_limit(rt: HostRuntime) -> Result<(), Fail> {
     let alloc = rt.alloc();
     for (nest, most) in [
-        (ARGUMENTS, 496),
-        (FUNCTIONS, 248),
-        (CHOICES, 124),
-        (CALLS, 248),
+        (ARGUMENTS, 221),
+        (FUNCTIONS, 110),
+        (CHOICES, 55),
+        (CALLS, 110),
     ] {
         let held = nest.source(alloc, most)?;
         assert_eq!(rt; fault_of(alloc, held.as_slice())?, None, "{most}");

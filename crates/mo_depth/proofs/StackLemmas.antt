@@ -46,5 +46,5 @@ pub stands_more : (tokens : List Token) (n : ℕ) (x : Token) (s s' : Standing) 
     s' ≡ angle_step s x.kind → s' ≡ behind_angles (take (n + 1) tokens)
 stands_more tokens n x s s' lt is stands stepped = stepped ∙ ap (λ z. angle_step z x.kind) stands ∙ behind_more tokens n x lt is
 
-pub held_more : (tokens : List Token) (n : ℕ) (s : Standing) → s ≡ behind_angles (take n tokens) → depth s ≤ 1000 → AreHeld n tokens → AreHeld (n + 1) tokens
-held_more tokens n s stands small first = below_more (λ i. open_at i tokens ≤ 1000) n first (subst (λ z. depth z ≤ 1000) stands small)
+pub held_more : (tokens : List Token) (n : ℕ) (s : Standing) → s ≡ behind_angles (take n tokens) → depth s ≤ 450 → AreHeld n tokens → AreHeld (n + 1) tokens
+held_more tokens n s stands small first = below_more (λ i. open_at i tokens ≤ 450) n first (subst (λ z. depth z ≤ 450) stands small)

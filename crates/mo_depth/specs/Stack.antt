@@ -53,6 +53,6 @@ behind_angles tokens = fold (λ s x. angle_step s x.kind) begin tokens
 abbrev pub open_at : ℕ → List Token → ℕ
 open_at n tokens = depth (behind_angles (take n tokens))
 
--- at each of the first tokens at most 1,000 constructs are open
+-- at each of the first tokens at most 450 constructs may be open
 abbrev pub AreHeld : ℕ → List Token → Type 0
-AreHeld n tokens = (i : ℕ) → i < n → open_at i tokens ≤ 1000
+AreHeld n tokens = (i : ℕ) → i < n → open_at i tokens ≤ 450

@@ -11,7 +11,7 @@ use mo_syntax::{Mark, Token, TokenKind};
 use std::alloc::Global;
 
 /// The greatest number of constructs that may be open at a token.
-pub const MOST_OPEN: usize = 1_000;
+pub const MOST_OPEN: usize = 450;
 
 /// What the token does to the brackets, of which `<` is one here.
 fn angle_role(kind: &TokenKind) -> Role
@@ -38,7 +38,7 @@ fn ends_angles(kind: &TokenKind) -> bool
 
 impl Nesting {
     fn before(self, kind: &TokenKind) -> Nesting
-        requires { self.depth ≤ 1000 }
+        requires { self.depth ≤ 450 }
         ensures at { standing result ≡ spec.before_mark (standing self) kind.now }
         ensures below { result.depth ≤ self.depth }
     {
@@ -50,16 +50,17 @@ impl Nesting {
     }
 
     fn angle_step(self, kind: &TokenKind) -> Result<Nesting, Memory>
-        requires { self.depth ≤ 1000 }
+        requires { self.depth ≤ 450 }
         ensures { IfOk result (λ next. standing next ≡ spec.angle_step (standing self) kind.now) }
     {
         self.before(kind).step(angle_role(kind))
     }
 }
 
-/// Asks whether the native stack can hold the reading of these tokens and the calls over their tree. Each level of those calls belongs to a
-/// construct that is open at some token, and the depth does not bound these: a `,` in the `< >` of types resets the count of the bracket
-/// around them. `Memory` where more than 1,000 constructs may be open at a token, or where no memory was left for this question.
+/// Asks whether the native stack can hold the reading of these tokens, and the calls over their tree. Each level of those calls belongs to a
+/// construct that is open at some token, and the depth does not bound how many are: a `,` in the `< >` of types resets the count of the bracket
+/// around them. `Memory` where more than 450 constructs may be open at a token, or where there was none for this question. What a level takes
+/// of the stack no definition says, so `Ok` promises the bound alone.
 pub fn ask_for_stack(alloc: Global, tokens: &[Token]) -> Result<(), Memory>
     ensures { IfOk result (λ _. AreHeld (length tokens.now) tokens.now) }
 {

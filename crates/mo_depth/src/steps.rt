@@ -37,7 +37,7 @@ impl Nesting {
     }
 
     fn open(self, close: Mark) -> Result<Nesting, Memory>
-        requires { self.depth ≤ 1000 }
+        requires { self.depth ≤ 450 }
         ensures { IfOk result (λ next. standing next ≡ spec.opened (standing self) close) }
     {
         let Nesting {
@@ -57,7 +57,7 @@ impl Nesting {
     }
 
     fn count(self) -> Nesting
-        requires { self.depth ≤ 1000 }
+        requires { self.depth ≤ 450 }
         ensures { standing result ≡ spec.counted (standing self) }
     {
         let Nesting {
@@ -94,7 +94,7 @@ impl Nesting {
     }
 
     fn leave(self) -> Nesting
-        requires { self.depth ≤ 1000 }
+        requires { self.depth ≤ 450 }
         ensures { standing result ≡ spec.left (standing self) }
     {
         let Nesting {
@@ -123,7 +123,7 @@ impl Nesting {
     }
 
     fn close(self, mark: Mark) -> Nesting
-        requires { self.depth ≤ 1000 }
+        requires { self.depth ≤ 450 }
         ensures { standing result ≡ spec.closed (standing self) mark }
     {
         if closes(&self.inner, mark) {
@@ -172,7 +172,7 @@ impl Nesting {
     }
 
     pub(crate) fn step(self, role: Role) -> Result<Nesting, Memory>
-        requires { self.depth ≤ 1000 }
+        requires { self.depth ≤ 450 }
         ensures { IfOk result (λ next. standing next ≡ spec.step (standing self) role) }
     {
         match role {

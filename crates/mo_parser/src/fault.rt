@@ -8,8 +8,8 @@ pub enum ParseFault {
     TooDeep(u32),
     /// No tree spells the tokens. The place is where a token starts, where the last one ends, or 0.
     Syntax(u32),
-    /// There was no memory for the tree, or there might be none on the native stack for the reading: more than 1,000 constructs may be open
-    /// at a token.
+    /// There was no memory for the tree, or there might be none on the native stack for the reading: more than 450 constructs may be open at
+    /// a token.
     Memory,
 }
 
