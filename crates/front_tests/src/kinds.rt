@@ -1,4 +1,4 @@
-//! The kinds of tokens, and whether two lists of them are the same.
+//! The kinds of tokens, and whether two lists of them are the same, wherever their names stand.
 use mo_lexer::lex;
 use mo_syntax::{Kinds, TokenKind};
 use std::alloc::Global;
@@ -14,7 +14,7 @@ pub fn kinds_of(alloc: Global, source: &[u8]) -> Result<Kinds, Fail> {
 
 fn same(a: &TokenKind, b: &TokenKind) -> bool {
     match (a, b) {
-        (TokenKind::Identifier(x), TokenKind::Identifier(y)) => x.as_slice() == y.as_slice(),
+        (TokenKind::Identifier(x), TokenKind::Identifier(y)) => x.same(y),
         (TokenKind::Reserved(x), TokenKind::Reserved(y)) => *x == *y,
         (TokenKind::Number(x), TokenKind::Number(y)) => *x == *y,
         (TokenKind::Character(x), TokenKind::Character(y)) => *x == *y,

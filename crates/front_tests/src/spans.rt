@@ -1,5 +1,5 @@
 //! Where the parts of trees stand in their sources: from the first byte of their first token to behind the last byte of their last one. The places were
-//! counted in the sources by hand, since no contract speaks of them.
+//! counted in the sources by hand, since contracts speak of those of names alone.
 use crate::sources::tree_of;
 use mo_syntax::{
     ActorField, Context, Declaration, Expression, Parameters, Pattern, Place, Tree, TypeExpression,

@@ -1,9 +1,10 @@
 //! Lists of tokens, spelled and read again. What is expected of the spelling was worked out by hand.
 use crate::kinds::{all_same, kinds_of};
-use mo_num::Bytes;
 use mo_syntax::{Actor, Items, Kinds, Name, Node, Place, TokenKind, Tree};
 use mo_unparse::{spell, unparse};
 use std::test::Fail;
+
+const NOWHERE: Place = Place { start: 0, end: 0 };
 
 #[test]
 fn spelled_and_read_again(rt: HostRuntime) -> Result<(), Fail> {
@@ -43,7 +44,7 @@ fn spelled_and_read_again(rt: HostRuntime) -> Result<(), Fail> {
 fn a_name_that_no_text_spells(rt: HostRuntime) -> Result<(), Fail> {
     let alloc = rt.alloc();
     let mut kinds = Kinds::new(alloc);
-    kinds.push(TokenKind::Identifier(Bytes::from_slice(alloc, b"a b")?))?;
+    kinds.push(TokenKind::Identifier(Name::new(alloc, NOWHERE, b"a b")?))?;
     let text = spell(alloc, kinds.as_slice())?;
     assert_eq!(rt; kinds_of(alloc, text.as_slice())?.len(), 2);
     Ok(())
@@ -52,16 +53,15 @@ fn a_name_that_no_text_spells(rt: HostRuntime) -> Result<(), Fail> {
 #[test]
 fn a_tree(rt: HostRuntime) -> Result<(), Fail> {
     let alloc = rt.alloc();
-    let nowhere = Place { start: 0, end: 0 };
     let actor = Actor {
-        name: Some(Name::new(alloc, nowhere, b"A")?),
+        name: Some(Name::new(alloc, NOWHERE, b"A")?),
         equal_sign: true,
         fields: Items::new(alloc),
         semicolon: false,
     };
     let tree = Tree {
         imports: Items::new(alloc),
-        actor: Node::new(alloc, nowhere, actor)?,
+        actor: Node::new(alloc, NOWHERE, actor)?,
         semicolon: true,
     };
     assert_eq!(rt;

@@ -6,14 +6,15 @@ use Rattle.std.specs.Option.{is_none}
 use Rattle.std.specs.Str.{bytes_eq}
 use Rattle.mo_syntax.specs.Characters.{is_numeral}
 use Rattle.mo_syntax.specs.Words.{word_of}
-use Rattle.mo_syntax.specs.Tokens.{AreInOrder}
+use Rattle.mo_syntax.specs.Tokens.{AreInOrder, placed}
 use Rattle.mo_syntax.specs.declared.token.TokenKind.{TokenKind}
 use Rattle.mo_syntax.specs.declared.token.TokenKind.TheVariants as t
-use Rattle.mo_lexer.specs.Answers.{Gives, Refuses}
+use Rattle.mo_lexer.specs.Answers.{Gives, Refuses, IsNamedAt, AreNamed}
 use Rattle.mo_lexer.proofs.Tools.{and_true}
 use Rattle.mo_lexer.proofs.MarkLemmas.{mark_some}
 use Rattle.std.proofs.lemmas.List.{append-nil, append_cancel_left}
 use Rattle.mo_syntax.specs.Lexed.{is_name, IsToken, Piece, blank, comment, token, piece_text, Stands, before_next, text_of, AllStand, tokens_from, Lexed}
+use Rattle.mo_syntax.specs.declared.place.Place.{Place}
 use Rattle.mo_syntax.specs.declared.token.Token.{Token}
 use Rattle.mo_syntax.specs.declared.before.Before.{Before}
 use Rattle.mo_syntax.specs.declared.before.Before.TheVariants as beside
@@ -166,7 +167,7 @@ numeral_some [] h = absurd (cc)
 numeral_some (b ∷ text) h = omega arith
 
 token_some : (before : Before) (kind : TokenKind) (text rest : List ℕ) → IsToken before kind text rest → 0 < length text
-token_some before (t.Identifier name) text rest (same, is, ends_) = subst (λ l. 0 < length l) (sym same) (name_some name (and_true (is_name name) (not (bytes_eq name (95 ∷ [])) && is_none (word_of name)) is).0)
+token_some before (t.Identifier name) text rest (same, is, ends_) = name_some text (and_true (is_name text) (not (bytes_eq text (95 ∷ [])) && is_none (word_of text)) is).0
 token_some before (t.Reserved word) text rest (is_word, is, ends_) = name_some text is
 token_some before (t.Number n) text rest (inl (numeral, v, e, p), small) = numeral_some text numeral
 token_some before (t.Number n) text rest (inr (digits, e, numeral, v, g), small) = omega (arith, ap length e)
@@ -200,3 +201,21 @@ lexed_in_order source tokens l =
 pub in_order : (source : List ℕ) (r : Result (List Token) LexFault) → IfOk r (λ found. (length source ≤ 1048576) × Lexed source found) → IfOk r (AreInOrder 0 (length source))
 in_order source (Ok tokens) is = lexed_in_order source tokens is.1
 in_order source (Err fault) is = tt
+
+placed_named : (place : Place) (kind : TokenKind) → IsNamedAt place (placed place kind)
+placed_named place (t.Identifier name) = refl
+placed_named place (t.Reserved word) = tt
+placed_named place (t.Number n) = tt
+placed_named place (t.Character c) = tt
+placed_named place (t.Text bytes) = tt
+placed_named place (t.Mark mark) = tt
+
+pieces_named : (place : ℕ) (pieces : List Piece) → AreNamed (tokens_from place pieces)
+pieces_named place [] = tt
+pieces_named place (blank b ∷ pieces) = pieces_named (place + 1) pieces
+pieces_named place (comment text ∷ pieces) = pieces_named (place + length text) pieces
+pieces_named place (token kind text ∷ pieces) = (placed_named (record { start = place; «end» = place + length text }) kind, pieces_named (place + length text) pieces)
+
+pub are_named : (source : List ℕ) (r : Result (List Token) LexFault) → IfOk r (λ found. (length source ≤ 1048576) × Lexed source found) → IfOk r AreNamed
+are_named source (Ok tokens) (short, lexed) = subst AreNamed (sym lexed.listed) (pieces_named 0 lexed.pieces)
+are_named source (Err fault) is = tt

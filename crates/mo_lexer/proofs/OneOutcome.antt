@@ -10,6 +10,7 @@ use Rattle.std.proofs.lemmas.List.{append-nil}
 use Rattle.std.proofs.lemmas.Str.{encode_same, char_from_byte, length-encode, len_utf8_bounds}
 use Rattle.mo_syntax.specs.Characters.{is_blank, is_name_start, is_name_byte, is_digit, begins, are_digits}
 use Rattle.mo_syntax.specs.Words.{mark_text, word_of, reserved_words}
+use Rattle.mo_syntax.specs.Tokens.{nowhere}
 use Rattle.mo_syntax.specs.Lexed.{is_name, IsToken, IsLongestMark, begins_comment, is_inside_line, closes, Piece, blank, comment, token, piece_text, Stands, Fits, Item, item_text, item_bytes}
 use Rattle.mo_syntax.specs.declared.word.Word.{Word}
 use Rattle.mo_syntax.specs.declared.mark.Mark.{Mark}
@@ -134,9 +135,13 @@ sign_shape m.Tag rest h g = other_shape 35 (rest) refl g
 
 -- ---- blanks, comments, names, numbers and marks are functions of the text
 
+-- an identifier whose place is not said
+abbrev pub identifier : List ℕ → TokenKind
+identifier text = t.Identifier (record { bytes = text; place = nowhere })
+
 abbrev kind_of_name : List ℕ → Option Word → TokenKind
 kind_of_name name (Some word) = t.Reserved word
-kind_of_name name None = if bytes_eq name (95 ∷ []) then t.Mark m.Underscore else t.Identifier name
+kind_of_name name None = if bytes_eq name (95 ∷ []) then t.Mark m.Underscore else identifier name
 
 abbrev name_outcome : List ℕ → Outcome
 name_outcome name = found (token (kind_of_name name (word_of name)) name)
@@ -358,12 +363,12 @@ name_view before place name rest kind is ends_ e =
     let cut : take (prefix_len is_name_byte (name ++ rest)) (name ++ rest) ≡ name = take_seam name rest (name ++ rest) (prefix_len is_name_byte (name ++ rest)) refl n in
     plain_view before place (name ++ rest) (found (token kind name)) names (name_starts name rest is) tt (ap (λ k. found (token k name)) e ∙ ap name_outcome (sym cut))
 
-identifier_kind : (name : List ℕ) → (not (bytes_eq name (95 ∷ [])) && is_none (word_of name)) ≡ true → t.Identifier name ≡ kind_of_name name (word_of name)
+identifier_kind : (name : List ℕ) → (not (bytes_eq name (95 ∷ [])) && is_none (word_of name)) ≡ true → identifier name ≡ kind_of_name name (word_of name)
 identifier_kind name h = by_word (word_of name) (and_true (not (bytes_eq name (95 ∷ []))) (is_none (word_of name)) h).0 (and_true (not (bytes_eq name (95 ∷ []))) (is_none (word_of name)) h).1
   where
-    by_word : (o : Option Word) → not (bytes_eq name (95 ∷ [])) ≡ true → is_none o ≡ true → t.Identifier name ≡ kind_of_name name o
+    by_word : (o : Option Word) → not (bytes_eq name (95 ∷ [])) ≡ true → is_none o ≡ true → identifier name ≡ kind_of_name name o
     by_word (Some word) g f = absurd (cc)
-    by_word None g f = sym (if_false (bytes_eq name (95 ∷ [])) (t.Mark m.Underscore) (t.Identifier name) (not_true (bytes_eq name (95 ∷ [])) g))
+    by_word None g f = sym (if_false (bytes_eq name (95 ∷ [])) (t.Mark m.Underscore) (identifier name) (not_true (bytes_eq name (95 ∷ [])) g))
 
 no_word : word_of (95 ∷ []) ≡ None
 unfolding word_of reserved_words
@@ -429,8 +434,8 @@ mark_text_view before place mark rest longest no_slash fits = ⊎_elim
 
 token_view : (before : Before) (place : ℕ) (kind : TokenKind) (text rest : List ℕ) → IsToken before kind text rest → View before place (text ++ rest) (found (token kind text))
 token_view before place (t.Identifier name) text rest (same, is, ends_) =
-    let both = and_true (is_name name) (not (bytes_eq name (95 ∷ [])) && is_none (word_of name)) is in
-    inl (subst (λ l. PlainView before place (l ++ rest) (found (token (t.Identifier name) l))) (sym same) (name_view before place name rest (t.Identifier name) both.0 ends_ (identifier_kind name both.1)))
+    let both = and_true (is_name text) (not (bytes_eq text (95 ∷ [])) && is_none (word_of text)) is in
+    inl (name_view before place text rest (t.Identifier name) both.0 ends_ (ap t.Identifier same ∙ identifier_kind text both.1))
 token_view before place (t.Reserved word) text rest (is_word, is, ends_) =
     inl (name_view before place text rest (t.Reserved word) is ends_ (ap (kind_of_name text) (sym is_word)))
 token_view before place (t.Number n) text rest (is, small) = inl (number_view before place text rest n is small)

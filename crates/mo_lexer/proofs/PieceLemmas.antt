@@ -30,6 +30,7 @@ use Rattle.mo_lexer.proofs.NumberLemmas.{NumberAt, decimal_found, hexadecimal_fo
 use Rattle.mo_lexer.specs.Reading.{block_len, digits_len}
 use Rattle.mo_lexer.proofs.Tools.{and_true, and_of, or_true, or_left, tested, slice_rest, if_true, take_two, drop_two}
 use Rattle.mo_lexer.proofs.Names.{run_found}
+use Rattle.mo_lexer.proofs.OneOutcome.{identifier}
 use Rattle.mo_lexer.proofs.CommentLemmas.{block_found}
 use Rattle.mo_lexer.proofs.EscapeLemmas.{take_seam, drop_seam}
 use Rattle.mo_lexer.proofs.MarkLemmas.{reached_some, longest_from_ended, mark_found, no_mark, context_found, underscore_longest}
@@ -68,7 +69,7 @@ abbrev pub NameKind : List ℕ → TokenKind → Type 0
 NameKind name kind =
     ((word : Word) × (word_of name ≡ Some word) × (kind ≡ t.Reserved word))
     ⊎ ((name ≡ 95 ∷ []) × (kind ≡ t.Mark m.Underscore))
-    ⊎ ((bytes_eq name (95 ∷ []) ≡ false) × (word_of name ≡ None) × (kind ≡ t.Identifier name))
+    ⊎ ((bytes_eq name (95 ∷ []) ≡ false) × (word_of name ≡ None) × (kind ≡ identifier name))
 
 starts_name : (text : List ℕ) → begins is_name_start text ≡ true → 0 < prefix_len is_name_byte text
 starts_name [] h = absurd (cc)

@@ -1,6 +1,7 @@
 -- What is found at the front of a text.
 use Rattle.std.specs.Prelude.{◌≡◌, ◌≢◌, ℕ, ◌<◌, ◌≤◌, true, List, [], ◌∷◌, ◌++◌, length, take, drop, Option, Some, None}
 use Rattle.mo_syntax.specs.Lexed.{Escaped, IsEscape, escaped_bytes, IsText, IsCharacter, Piece, blank, comment, token, piece_text, Stands, before_next}
+use Rattle.mo_syntax.specs.Tokens.{placed}
 use Rattle.mo_syntax.specs.declared.token.TokenKind.{TokenKind}
 use Rattle.mo_syntax.specs.declared.token.Token.{Token}
 use Rattle.mo_syntax.specs.declared.before.Before.{Before}
@@ -53,10 +54,10 @@ kind_of (blank b) = None
 kind_of (comment text) = None
 kind_of (token kind text) = Some kind
 
--- the token of this kind and these places, where there is one
+-- the token of this kind that stands there, where there is one
 abbrev pub token_list : Option TokenKind → ℕ → ℕ → List Token
 token_list None start stop_ = []
-token_list (Some kind) start stop_ = record { kind = kind; start = start; end = stop_ } ∷ []
+token_list (Some kind) start stop_ = record { kind = placed (record { start = start; «end» = stop_ }) kind; start = start; «end» = stop_ } ∷ []
 
 -- a piece stands at the front of the text
 pub record PieceIs (before : Before) (text : List ℕ) (found : Found) : Type 0 where

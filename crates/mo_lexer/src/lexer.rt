@@ -6,14 +6,14 @@ ghost use Rattle.mo_syntax.specs.Lexed.{Lexed};
 ghost use Rattle.mo_syntax.specs.Tokens.{AreInOrder};
 ghost use Rattle.mo_lexer.specs.declared.fault.LexFault.{LexFault};
 ghost use Rattle.mo_lexer.specs.Faults.{Faults};
-ghost use Rattle.mo_lexer.specs.Answers.{TextStops, Gives, Refuses};
+ghost use Rattle.mo_lexer.specs.Answers.{TextStops, Gives, Refuses, AreNamed};
 
 use crate::fault::LexFault;
 use crate::front::utf8_front;
 use crate::piece::piece_at;
 use crate::stop::Stop;
 use mo_num::Memory;
-use mo_syntax::{Before, Token, TokenKind, Tokens};
+use mo_syntax::{Before, Place, Token, TokenKind, Tokens};
 use std::alloc::Global;
 
 /// How many bytes a source may have.
@@ -30,6 +30,9 @@ pub fn lex(alloc: Global, source: &[u8]) -> Result<Tokens, LexFault>
     ensures only_fault { (fault : LexFault) → Faults source.now fault → Refuses fault result }
 
     ensures ordered { IfOk result (AreInOrder 0 (length source.now)) }
+
+    // Each name stands where its token does.
+    ensures named { IfOk result AreNamed }
 {
     answer(alloc, source)
 }
@@ -87,7 +90,11 @@ fn add(tokens: &mut Tokens, kind: Option<TokenKind>, start: u32, end: u32) -> Re
     ensures { OnOk result (tokens.new ≡ tokens.old ++ token_list kind start end) }
 {
     match kind {
-        Some(kind) => tokens.push(Token { kind, start, end }),
+        Some(kind) => tokens.push(Token {
+            kind: kind.placed(Place { start, end }),
+            start,
+            end,
+        }),
         None => Ok(()),
     }
 }

@@ -14,8 +14,7 @@ use crate::name::reserved_word;
 use crate::number::number_at;
 use crate::sign::{in_context, mark_at};
 use crate::stop::Stop;
-use mo_num::Bytes;
-use mo_syntax::{Before, Mark, TokenKind};
+use mo_syntax::{Before, Mark, Name, Place, TokenKind};
 use std::alloc::Global;
 
 /// A piece: its kind where it is a token, what it leaves directly before the next one, and how many bytes it has.
@@ -114,7 +113,8 @@ fn name_at(alloc: Global, text: &[u8]) -> Result<Found, Stop>
     let kind = match reserved_word(name) {
         Some(word) => TokenKind::Reserved(word),
         None if name == b"_".as_slice() => TokenKind::Mark(Mark::Underscore),
-        None => TokenKind::Identifier(Bytes::from_slice(alloc, name)?),
+        // It gets its place with its token.
+        None => TokenKind::Identifier(Name::new(alloc, Place { start: 0, end: 0 }, name)?),
     };
     Ok(token(kind, len))
 }

@@ -2,6 +2,7 @@
 use Rattle.std.proofs.Common.{◌≡◌, ℕ, Bool, true, false, List, [], ◌∷◌, ◌++◌, Option, Some, None, refl, sym, ap, ◌∙◌, subst, rules}
 use Rattle.std.specs.Prelude.{if◌then◌else◌, ◌≢◌}
 use denote.Enum.Bare.{same_true, same_false, true_same, false_same}
+use Rattle.mo_syntax.specs.declared.name.Name.{Name}
 use Rattle.mo_syntax.specs.contracts.mark.Mark as a_mark
 use Rattle.mo_syntax.specs.contracts.word.Word as a_word
 use Rattle.mo_syntax.specs.declared.token.TokenKind.{TokenKind}
@@ -135,7 +136,7 @@ pub expect_ok : {B C : Type 0} (s : TokenKind) (i : Input) (f : Unit {0} → Par
 unfolding expect
 expect_ok s i f y h go = cases_expect (sees s i) (next i) f y h (λ is r. go (next i) (sees_true s i is) r)
 
-pub identifier_ok : (i : Input) (x : List ℕ) (j : Input) → identifier i ≡ Some (x, j) → i ≡ t.Identifier x ∷ j
+pub identifier_ok : (i : Input) (x : Name) (j : Input) → identifier i ≡ Some (x, j) → i ≡ t.Identifier x ∷ j
 unfolding identifier
 identifier_ok [] x j h = absurd (cc)
 identifier_ok (t.Identifier y ∷ i) x j h = ap (λ z. t.Identifier z.0 ∷ z.1) (some_is (y, i) (x, j) h)
@@ -222,16 +223,16 @@ look_word (t.Reserved b ∷ i) a h = ap (λ z. z ∷ i) (ap (λ z. t.Reserved z)
 look_word (_ ∷ i) a h = absurd (cc)
 
 -- `[id ":"]`
-pub label_ok : (i : Input) (x : Option (List ℕ)) (j : Input) → label i ≡ Some (x, j) → i ≡ item_name x ++ j
+pub label_ok : (i : Input) (x : Option Name) (j : Input) → label i ≡ Some (x, j) → i ≡ item_name x ++ j
 unfolding label
 label_ok (t.Identifier y ∷ t.Mark m.Colon ∷ i) x j h = ap (λ z. item_name z.0 ++ z.1) (some_is (Some y, i) (x, j) h)
 label_ok i x j h = ap (λ z. item_name z.0 ++ z.1) (some_is (None, i) (x, j) h)
 
-pub label_takes : (x : List ℕ) (j : Input) → label (t.Identifier x ∷ t.Mark m.Colon ∷ j) ≡ Some (Some x, j)
+pub label_takes : (x : Name) (j : Input) → label (t.Identifier x ∷ t.Mark m.Colon ∷ j) ≡ Some (Some x, j)
 unfolding label
 label_takes x j = refl
 
-pub label_leaves : (i : Input) → ((x : List ℕ) (j : Input) → i ≢ t.Identifier x ∷ t.Mark m.Colon ∷ j) → label i ≡ Some (None, i)
+pub label_leaves : (i : Input) → ((x : Name) (j : Input) → i ≢ t.Identifier x ∷ t.Mark m.Colon ∷ j) → label i ≡ Some (None, i)
 unfolding label
 label_leaves (t.Identifier y ∷ t.Mark m.Colon ∷ i) differs = absurd (differs y i refl)
 label_leaves i differs = refl

@@ -1,6 +1,7 @@
 -- Reading from left to right: a parser takes a value off the front of a list of tokens, or refuses. The steps that every rule is made of.
 use Rattle.std.specs.Prelude.{◌≡◌, ◌≢◌, ℕ, zero, suc, Bool, true, false, if◌then◌else◌, List, [], ◌∷◌, ◌++◌, length, map, Option, Some, None, Result, Ok, Err}
 use denote.Enum.Bare.{sameb}
+use Rattle.mo_syntax.specs.declared.name.Name.{Name}
 use Rattle.mo_syntax.specs.declared.token.Token.{Token}
 use Rattle.mo_syntax.specs.declared.token.TokenKind.{TokenKind}
 use Rattle.mo_syntax.specs.declared.token.TokenKind.TheVariants as t
@@ -26,7 +27,7 @@ Outcome A = Option (A × Input)
 abbrev pub Parser : Type 0 → Type 0
 Parser A = Input → Outcome A
 
--- what the tokens are, without their places
+-- what the tokens are, without their places but for those of names
 abbrev pub kinds : List Token → Input
 kinds tokens = map (λ x. x.kind) tokens
 
@@ -108,12 +109,12 @@ eat sign = λ i. Some (sees sign i, after sign i)
 unfoldable pub expect : TokenKind → Parser (Unit {0})
 expect sign = λ i. if sees sign i then Some (tt, next i) else None
 
-unfoldable pub identifier : Parser (List ℕ)
+unfoldable pub identifier : Parser Name
 identifier (t.Identifier x ∷ i) = Some (x, i)
 identifier i = None
 
 -- `[id ":"]`
-unfoldable pub label : Parser (Option (List ℕ))
+unfoldable pub label : Parser (Option Name)
 label (t.Identifier x ∷ t.Mark m.Colon ∷ i) = Some (Some x, i)
 label i = Some (None, i)
 

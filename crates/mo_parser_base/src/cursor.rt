@@ -11,7 +11,7 @@ use mo_syntax::{Literal, Mark, Name, Node, Place, Token, TokenKind, Word};
 use std::alloc::Global;
 use std::marker::Model;
 
-/// The tokens that are left, which contracts see as the list of what they are. Their places are no part of it.
+/// The tokens that are left, which contracts see as the list of what they are. Of their places, those of names alone are a part of it.
 #[derive(Drop)]
 pub struct Cursor<'a> {
     rest: &'a [Token],
@@ -235,18 +235,14 @@ impl<'a> Cursor<'a> {
             [
                 Token {
                     kind: TokenKind::Identifier(name),
-                    start,
                     end,
+                    ..
                 },
                 rest @ ..,
             ] => {
-                let place = Place {
-                    start: *start,
-                    end: *end,
-                };
                 self.rest = rest;
                 self.end = *end;
-                Ok(Name::new(alloc, place, name.as_slice())?)
+                Ok(name.copy(alloc)?)
             }
             _ => Err(Stop::Refused),
         }
@@ -261,23 +257,18 @@ impl<'a> Cursor<'a> {
             [
                 Token {
                     kind: TokenKind::Identifier(name),
-                    start,
-                    end,
+                    ..
                 },
                 Token {
                     kind: TokenKind::Mark(Mark::Colon),
-                    end: behind,
+                    end,
                     ..
                 },
                 rest @ ..,
             ] => {
-                let place = Place {
-                    start: *start,
-                    end: *end,
-                };
                 self.rest = rest;
-                self.end = *behind;
-                Ok(Some(Name::new(alloc, place, name.as_slice())?))
+                self.end = *end;
+                Ok(Some(name.copy(alloc)?))
             }
             _ => Ok(None),
         }

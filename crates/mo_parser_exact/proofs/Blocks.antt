@@ -1,6 +1,7 @@
 -- Blocks, conditions, cases, fields and bodies are read exactly.
 use Rattle.std.proofs.Common.{◌≡◌, ℕ, suc, ◌<◌, Bool, true, false, List, [], ◌∷◌, ◌++◌, length, map, Some, None, refl, sym, ap, ◌∙◌, subst, arith, inl, inr, ◌⊎◌}
 use Rattle.std.specs.Prelude.{◌≢◌}
+use Rattle.mo_syntax.specs.declared.name.Name.{Name}
 use Rattle.mo_syntax.specs.declared.token.TokenKind.{TokenKind}
 use Rattle.mo_syntax.specs.declared.token.TokenKind.TheVariants as t
 use Rattle.mo_syntax.specs.declared.mark.Mark.TheVariants as m
@@ -115,7 +116,7 @@ module _ (b : ℕ) (P : ℕ → Parser Expression) (D : Parser Declaration) (h :
   abbrev Tests : Expression → Type 0
   Tests x = (r : Input) → length (expression_tokens x) < suc b → IsExpression x 10 None → p.condition P D (expression_tokens x ++ r) ≡ Some (x, r)
 
-  tests_variable : (x : List ℕ) → Tests (e.Variable x)
+  tests_variable : (x : Name) → Tests (e.Variable x)
   unfolding p.condition p.variable
   tests_variable x r short good = makes_as (a_name (suc b)) e.Variable expression_tokens x (eq.tokens_Variable x) (p.condition P D) r refl short tt tt
 

@@ -1,6 +1,7 @@
 -- What goes on with an operand, and operators of one operand, are read exactly.
 use Rattle.std.proofs.Common.{◌≡◌, ℕ, zero, suc, ◌+◌, ◌<◌, ◌≤◌, true, false, List, [], ◌∷◌, ◌++◌, length, map, option_map, Option, Some, None, refl, sym, ap, ◌∙◌, subst, arith, append_assoc, length-append}
 use Rattle.std.specs.Prelude.{if◌then◌else◌}
+use Rattle.mo_syntax.specs.declared.name.Name.{Name}
 use Rattle.mo_syntax.specs.declared.token.TokenKind.TheVariants as t
 use Rattle.mo_syntax.specs.declared.word.Word.{Word}
 use Rattle.mo_syntax.specs.declared.word.Word.TheVariants as w
@@ -142,7 +143,7 @@ module _ (b : ℕ) (P : ℕ → Parser Expression) (D : Parser Declaration) (h :
         ap (λ u. p.postfix P D (u ++ r)) text ∙ ap (λ u. p.postfix P D u) (append_assoc (expression_tokens x) v r) ∙ all.2 ∙ ap (λ u. p.chain P D u x i) turn.1 ∙ chain_step turn.0 x z i r more reads,
       )
 
-  goes_member : (x : Expression) (y : List ℕ) → Goes x → Goes (e.Member x y)
+  goes_member : (x : Expression) (y : Name) → Goes x → Goes (e.Member x y)
   unfolding p.longer p.selected identifier
   goes_member x y goes r short good = goes_on x (e.Member x y) (t.Mark m.Dot ∷ t.Identifier y ∷ []) r goes (eq.tokens_Member x y) (omega arith) short (rule_out2 (eq.rule_Member x y) 9 (first r) good).1 refl refl
 
@@ -290,11 +291,11 @@ module _ (b : ℕ) (P : ℕ → Parser Expression) (D : Parser Declaration) (h :
   begins_same (Some (t.Reserved x)) = refl
   begins_same (Some (t.Mark x)) = refl
 
-  tagged_good : (z : List ℕ × Option Expression) (n : Next) → Carried z.1 n → IsExpression (to_tagged z) 8 n
+  tagged_good : (z : Name × Option Expression) (n : Next) → Carried z.1 n → IsExpression (to_tagged z) 8 n
   tagged_good (x, None) n good = rule_in2 (eq.rule_Tagged x None) 8 n (omega arith, begins_same n ∙ good)
   tagged_good (x, Some y) n good = rule_in2 (eq.rule_Tagged x (Some y)) 8 n (omega arith, good)
 
-  tagged_fact : (z : List ℕ × Option Expression) (n : Next) → IsExpression (to_tagged z) 8 n → Carried z.1 n
+  tagged_fact : (z : Name × Option Expression) (n : Next) → IsExpression (to_tagged z) 8 n → Carried z.1 n
   tagged_fact (x, None) n good = sym (begins_same n) ∙ (rule_out2 (eq.rule_Tagged x None) 8 n good).1
   tagged_fact (x, Some y) n good = (rule_out2 (eq.rule_Tagged x (Some y)) 8 n good).1
 
@@ -368,7 +369,7 @@ module _ (b : ℕ) (P : ℕ → Parser Expression) (D : Parser Declaration) (h :
   unfolding p.unary
   read_Not x r short good stops = makes_behind (t.Reserved w.Not) h.unary e.Not expression_tokens x (eq.tokens_Not x) (p.unary P D) r refl short (rule_out2 (eq.rule_Not x) 8 (first r) good).1 stops
 
-  read_tagged : (z : List ℕ × Option Expression) → Read (to_tagged z)
+  read_tagged : (z : Name × Option Expression) → Read (to_tagged z)
   unfolding p.unary p.tagged
   read_tagged z r short good stops = makes_behind (t.Mark m.Tag) tagged_parts to_tagged expression_tokens z (eq.tokens_Tagged z.0 z.1) (p.unary P D) r refl short (tt, tagged_fact z (first r) good) stops
 

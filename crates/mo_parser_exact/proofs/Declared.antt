@@ -1,6 +1,7 @@
 -- Declarations are read exactly, over exact parsers of their parts.
 use Rattle.std.proofs.Common.{◌≡◌, ℕ, ◌<◌, Bool, true, false, List, [], ◌∷◌, ◌++◌, length, Option, Some, None, refl, sym, ap, ◌∙◌, subst, arith}
 use Rattle.std.specs.Prelude.{◌≢◌, if◌then◌else◌, ◌&&◌}
+use Rattle.mo_syntax.specs.declared.name.Name.{Name}
 use Rattle.mo_syntax.specs.declared.token.TokenKind.TheVariants as t
 use Rattle.mo_syntax.specs.declared.word.Word.{Word}
 use Rattle.mo_syntax.specs.declared.word.Word.TheVariants as w
@@ -44,7 +45,7 @@ out : {R S : Next → Type 0} → R ≡ S → (n : Next) → R n → S n
 out e n h = subst (λ (r : Next → Type 0). r n) e h
 
 abbrev Func : Type 0
-Func = List ℕ × (Option (List TypeParameter) × (p.Signature × Expression))
+Func = Name × (Option (List TypeParameter) × (p.Signature × Expression))
 
 func_good : (z : Func) (n : Next) → AreTypeParameters z.1.0 × SignedAt z.1.1 n → DecAt (p.to_func z) n
 func_good (x, (g, ((q, (k, true)), a))) n u = in_ (eq.rule_Func x g q k true a) n (u.0, u.1.0.0, u.1.0.1, u.1.1)
@@ -63,16 +64,16 @@ func_fact (x, (g, ((q, (k, false)), a))) n good = let u = out (eq.rule_Func x g 
 abbrev to_let : Pattern × Expression → Declaration
 to_let z = d.Let z.0 z.1
 
-abbrev to_var : List ℕ × (Option TypeExpression × Expression) → Declaration
+abbrev to_var : Name × (Option TypeExpression × Expression) → Declaration
 to_var z = d.Var z.0 z.1.0 z.1.1
 
-abbrev to_type : List ℕ × (Option (List (List ℕ)) × TypeExpression) → Declaration
+abbrev to_type : Name × (Option (List Name) × TypeExpression) → Declaration
 to_type z = d.TypeAlias z.0 z.1.0 z.1.1
 
-abbrev to_class : List ℕ × (Option (List TypeParameter) × (Parameters × (List DeclarationField × Bool))) → Declaration
+abbrev to_class : Name × (Option (List TypeParameter) × (Parameters × (List DeclarationField × Bool))) → Declaration
 to_class z = d.Class z.0 z.1.0 z.1.1.0 z.1.1.1.0 z.1.1.1.1
 
-abbrev to_object : List ℕ × (List DeclarationField × Bool) → Declaration
+abbrev to_object : Name × (List DeclarationField × Bool) → Declaration
 to_object z = d.NamedObject z.0 z.1.0 z.1.1
 
 -- the tokens that begin a declaration
@@ -182,22 +183,22 @@ module _ (b : ℕ) (P : ℕ → Parser Expression) (D : Parser Declaration) (h :
   read_let x a r short good stops = makes_behind (t.Reserved w.Let) (let_parts b P D h no_public no_private) to_let declaration_tokens (x, a) (eq.tokens_Let x a) (p.declaration P D) r refl (omega arith)
       (let u = out (eq.rule_Let x a) (first r) good in (u.0, u.1)) stops
 
-  read_var : (x : List ℕ) (k : Option TypeExpression) (a : Expression) → Read (d.Var x k a)
+  read_var : (x : Name) (k : Option TypeExpression) (a : Expression) → Read (d.Var x k a)
   unfolding p.declaration p.var_declaration
   read_var x k a r short good stops = makes_behind (t.Reserved w.Var) (var_parts b P D h no_public no_private) to_var declaration_tokens (x, (k, a)) (eq.tokens_Var x k a) (p.declaration P D) r refl (omega arith)
       (let u = out (eq.rule_Var x k a) (first r) good in (tt, (u.0, u.1))) stops
 
-  read_type : (x : List ℕ) (names : Option (List (List ℕ))) (k : TypeExpression) → Read (d.TypeAlias x names k)
+  read_type : (x : Name) (names : Option (List Name)) (k : TypeExpression) → Read (d.TypeAlias x names k)
   unfolding p.declaration p.type_declaration
   read_type x names k r short good stops = makes_behind (t.Reserved w.TypeWord) (type_parts b P D h no_public no_private) to_type declaration_tokens (x, (names, k)) (eq.tokens_TypeAlias x names k) (p.declaration P D) r refl (omega arith)
       (tt, (tt, out (eq.rule_TypeAlias x names k) (first r) good)) stops
 
-  read_class : (x : List ℕ) (g : Option (List TypeParameter)) (q : Parameters) (fields : List DeclarationField) (last : Bool) → Read (d.Class x g q fields last)
+  read_class : (x : Name) (g : Option (List TypeParameter)) (q : Parameters) (fields : List DeclarationField) (last : Bool) → Read (d.Class x g q fields last)
   unfolding p.declaration p.class_declaration
   read_class x g q fields last r short good stops = makes_behind (t.Reserved w.Class) (class_parts b P D h no_public no_private) to_class declaration_tokens (x, (g, (q, (fields, last)))) (eq.tokens_Class x g q fields last) (p.declaration P D) r refl (omega arith)
       (let u = out (eq.rule_Class x g q fields last) (first r) good in (tt, (u.0, (u.1, u.2)))) tt
 
-  read_object : (x : List ℕ) (fields : List DeclarationField) (last : Bool) → Read (d.NamedObject x fields last)
+  read_object : (x : Name) (fields : List DeclarationField) (last : Bool) → Read (d.NamedObject x fields last)
   unfolding p.declaration p.object_or_expression p.object_declaration
   read_object x fields last r short good stops = makes_behind (t.Reserved w.Object) (object_parts b P D h no_public no_private) to_object declaration_tokens (x, (fields, last)) (eq.tokens_NamedObject x fields last) (p.declaration P D) r refl (omega arith)
       (tt, out (eq.rule_NamedObject x fields last) (first r) good) tt

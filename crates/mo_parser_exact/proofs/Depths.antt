@@ -1,6 +1,7 @@
 -- Expressions, declarations and bodies are read exactly, at every depth.
 use Rattle.std.proofs.Common.{◌≡◌, ℕ, zero, suc, ◌+◌, ◌<◌, Bool, true, false, List, [], ◌∷◌, ◌++◌, length, map, option_map, Some, None, refl, sym, ap, subst, arith, length-append}
 use Rattle.std.specs.Prelude.{◌≢◌}
+use Rattle.mo_syntax.specs.declared.name.Name.{Name}
 use Rattle.mo_syntax.specs.declared.token.TokenKind.{TokenKind}
 use Rattle.mo_syntax.specs.declared.token.TokenKind.TheVariants as t
 use Rattle.mo_syntax.specs.declared.word.Word.{Word}
@@ -184,14 +185,14 @@ postfix_must P D (t.Mark a ∷ j) never = mark_must_postfix P D a j never
 postfix_must P D (t.Reserved a ∷ j) never = word_must_postfix P D a j never
 postfix_must P D (_ ∷ j) never = absurd (cc)
 
-whole_no_func : (P : ℕ → Parser Expression) (D : Parser Declaration) (x : List ℕ) (i : Input) → s.begins_parameters (look i) ≡ true → p.whole P D (t.Reserved w.Func ∷ t.Identifier x ∷ i) ≡ None
+whole_no_func : (P : ℕ → Parser Expression) (D : Parser Declaration) (x : Name) (i : Input) → s.begins_parameters (look i) ≡ true → p.whole P D (t.Reserved w.Func ∷ t.Identifier x ∷ i) ≡ None
 unfolding p.whole p.worded p.function_rule p.signed p.signature p.body p.block a_list annotation after expect same_mark identifier
 whole_no_func P D x (t.Identifier y ∷ i) some = refl
 whole_no_func P D x (t.Mark m.ParenOpen ∷ i) some = refl
 whole_no_func P D x (t.Mark m.AngleOpen ∷ i) some = refl
 whole_no_func P D x _ some = absurd (cc)
 
-whole_no_object : (P : ℕ → Parser Expression) (D : Parser Declaration) (x : List ℕ) (i : Input) → p.whole P D (t.Reserved w.Object ∷ t.Identifier x ∷ i) ≡ None
+whole_no_object : (P : ℕ → Parser Expression) (D : Parser Declaration) (x : Name) (i : Input) → p.whole P D (t.Reserved w.Object ∷ t.Identifier x ∷ i) ≡ None
 unfolding p.whole p.worded p.object_rule expect
 whole_no_object P D x i = refl
 
@@ -205,12 +206,12 @@ unfolding p.expression_at p.declaration_at p.readers p.level
 expression_must_postfix zero i never = refl
 expression_must_postfix (suc d) i never = postfix_must (p.expression_at d) (p.declaration_at d) i never
 
-no_func_at : (d : ℕ) (x : List ℕ) (i : Input) → s.begins_parameters (look i) ≡ true → p.expression_at d 0 (t.Reserved w.Func ∷ t.Identifier x ∷ i) ≡ None
+no_func_at : (d : ℕ) (x : Name) (i : Input) → s.begins_parameters (look i) ≡ true → p.expression_at d 0 (t.Reserved w.Func ∷ t.Identifier x ∷ i) ≡ None
 unfolding p.expression_at p.declaration_at p.readers p.level
 no_func_at zero x i some = refl
 no_func_at (suc d) x i some = whole_no_func (p.expression_at d) (p.declaration_at d) x i some
 
-no_object_at : (d : ℕ) (x : List ℕ) (i : Input) → p.expression_at d 0 (t.Reserved w.Object ∷ t.Identifier x ∷ i) ≡ None
+no_object_at : (d : ℕ) (x : Name) (i : Input) → p.expression_at d 0 (t.Reserved w.Object ∷ t.Identifier x ∷ i) ≡ None
 unfolding p.expression_at p.declaration_at p.readers p.level
 no_object_at zero x i = refl
 no_object_at (suc d) x i = whole_no_object (p.expression_at d) (p.declaration_at d) x i

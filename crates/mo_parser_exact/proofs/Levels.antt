@@ -1,5 +1,6 @@
 -- The levels of expressions: how tightly each kind of tree binds.
 use Rattle.std.proofs.Common.{◌≡◌, ℕ, ◌≤◌, Bool, List, Option, Some, None, refl, sym, subst, arith}
+use Rattle.mo_syntax.specs.declared.name.Name.{Name}
 use Rattle.mo_syntax.specs.declared.token.TokenKind.{TokenKind}
 use Rattle.mo_syntax.specs.declared.types.TypeExpression.{TypeExpression}
 use Rattle.mo_syntax.specs.declared.patterns.Pattern.{Pattern}
@@ -170,24 +171,24 @@ at_For x0 x1 x2 l n good = (rule_out2 (eq.rule_For x0 x1 x2) l n good).0
 pub move_For : (x0 : Pattern) (x1 : Expression) (x2 : Expression) (l k : ℕ) (n : Next) → (l ≡ 0 → k ≡ 0) → IsExpression (e.For x0 x1 x2) l n → IsExpression (e.For x0 x1 x2) k n
 move_For x0 x1 x2 l k n fit good = rule_in2 (eq.rule_For x0 x1 x2) k n (let u = rule_out2 (eq.rule_For x0 x1 x2) l n good in (fit u.0, u.1, u.2, u.3))
 
-pub at_Label : (x0 : List ℕ) (x1 : Option TypeExpression) (x2 : Expression) (l : ℕ) (n : Next) → IsExpression (e.Label x0 x1 x2) l n → l ≡ 0
+pub at_Label : (x0 : Name) (x1 : Option TypeExpression) (x2 : Expression) (l : ℕ) (n : Next) → IsExpression (e.Label x0 x1 x2) l n → l ≡ 0
 at_Label x0 x1 x2 l n good = (rule_out2 (eq.rule_Label x0 x1 x2) l n good).0
 
-pub move_Label : (x0 : List ℕ) (x1 : Option TypeExpression) (x2 : Expression) (l k : ℕ) (n : Next) → (l ≡ 0 → k ≡ 0) → IsExpression (e.Label x0 x1 x2) l n → IsExpression (e.Label x0 x1 x2) k n
+pub move_Label : (x0 : Name) (x1 : Option TypeExpression) (x2 : Expression) (l k : ℕ) (n : Next) → (l ≡ 0 → k ≡ 0) → IsExpression (e.Label x0 x1 x2) l n → IsExpression (e.Label x0 x1 x2) k n
 move_Label x0 x1 x2 l k n fit good = rule_in2 (eq.rule_Label x0 x1 x2) k n (let u = rule_out2 (eq.rule_Label x0 x1 x2) l n good in (fit u.0, u.1, u.2))
 
-pub at_Break : (x0 : List ℕ) (x1 : Option Expression) (l : ℕ) (n : Next) → IsExpression (e.Break x0 x1) l n → l ≡ 0
+pub at_Break : (x0 : Name) (x1 : Option Expression) (l : ℕ) (n : Next) → IsExpression (e.Break x0 x1) l n → l ≡ 0
 at_Break x0 None l n good = (rule_out2 (eq.rule_Break x0 None) l n good).0
 at_Break x0 (Some y) l n good = (rule_out2 (eq.rule_Break x0 (Some y)) l n good).0
 
-pub move_Break : (x0 : List ℕ) (x1 : Option Expression) (l k : ℕ) (n : Next) → (l ≡ 0 → k ≡ 0) → IsExpression (e.Break x0 x1) l n → IsExpression (e.Break x0 x1) k n
+pub move_Break : (x0 : Name) (x1 : Option Expression) (l k : ℕ) (n : Next) → (l ≡ 0 → k ≡ 0) → IsExpression (e.Break x0 x1) l n → IsExpression (e.Break x0 x1) k n
 move_Break x0 None l k n fit good = rule_in2 (eq.rule_Break x0 None) k n (let u = rule_out2 (eq.rule_Break x0 None) l n good in (fit u.0, u.1))
 move_Break x0 (Some y) l k n fit good = rule_in2 (eq.rule_Break x0 (Some y)) k n (let u = rule_out2 (eq.rule_Break x0 (Some y)) l n good in (fit u.0, u.1))
 
-pub at_Continue : (x0 : List ℕ) (l : ℕ) (n : Next) → IsExpression (e.Continue x0) l n → l ≡ 0
+pub at_Continue : (x0 : Name) (l : ℕ) (n : Next) → IsExpression (e.Continue x0) l n → l ≡ 0
 at_Continue x0 l n good = rule_out2 (eq.rule_Continue x0) l n good
 
-pub move_Continue : (x0 : List ℕ) (l k : ℕ) (n : Next) → (l ≡ 0 → k ≡ 0) → IsExpression (e.Continue x0) l n → IsExpression (e.Continue x0) k n
+pub move_Continue : (x0 : Name) (l k : ℕ) (n : Next) → (l ≡ 0 → k ≡ 0) → IsExpression (e.Continue x0) l n → IsExpression (e.Continue x0) k n
 move_Continue x0 l k n fit good = rule_in2 (eq.rule_Continue x0) k n (let u = rule_out2 (eq.rule_Continue x0) l n good in fit u)
 
 pub at_Return : (x0 : Option Expression) (l : ℕ) (n : Next) → IsExpression (e.Return x0) l n → l ≡ 0
@@ -276,18 +277,18 @@ at_Not x0 l n good = (rule_out2 (eq.rule_Not x0) l n good).0
 pub move_Not : (x0 : Expression) (l k : ℕ) (n : Next) → (l ≤ 8 → k ≤ 8) → IsExpression (e.Not x0) l n → IsExpression (e.Not x0) k n
 move_Not x0 l k n fit good = rule_in2 (eq.rule_Not x0) k n (let u = rule_out2 (eq.rule_Not x0) l n good in (fit u.0, u.1))
 
-pub at_Tagged : (x0 : List ℕ) (x1 : Option Expression) (l : ℕ) (n : Next) → IsExpression (e.Tagged x0 x1) l n → l ≤ 8
+pub at_Tagged : (x0 : Name) (x1 : Option Expression) (l : ℕ) (n : Next) → IsExpression (e.Tagged x0 x1) l n → l ≤ 8
 at_Tagged x0 None l n good = (rule_out2 (eq.rule_Tagged x0 None) l n good).0
 at_Tagged x0 (Some y) l n good = (rule_out2 (eq.rule_Tagged x0 (Some y)) l n good).0
 
-pub move_Tagged : (x0 : List ℕ) (x1 : Option Expression) (l k : ℕ) (n : Next) → (l ≤ 8 → k ≤ 8) → IsExpression (e.Tagged x0 x1) l n → IsExpression (e.Tagged x0 x1) k n
+pub move_Tagged : (x0 : Name) (x1 : Option Expression) (l k : ℕ) (n : Next) → (l ≤ 8 → k ≤ 8) → IsExpression (e.Tagged x0 x1) l n → IsExpression (e.Tagged x0 x1) k n
 move_Tagged x0 None l k n fit good = rule_in2 (eq.rule_Tagged x0 None) k n (let u = rule_out2 (eq.rule_Tagged x0 None) l n good in (fit u.0, u.1))
 move_Tagged x0 (Some y) l k n fit good = rule_in2 (eq.rule_Tagged x0 (Some y)) k n (let u = rule_out2 (eq.rule_Tagged x0 (Some y)) l n good in (fit u.0, u.1))
 
-pub at_Member : (x0 : Expression) (x1 : List ℕ) (l : ℕ) (n : Next) → IsExpression (e.Member x0 x1) l n → l ≤ 9
+pub at_Member : (x0 : Expression) (x1 : Name) (l : ℕ) (n : Next) → IsExpression (e.Member x0 x1) l n → l ≤ 9
 at_Member x0 x1 l n good = (rule_out2 (eq.rule_Member x0 x1) l n good).0
 
-pub move_Member : (x0 : Expression) (x1 : List ℕ) (l k : ℕ) (n : Next) → (l ≤ 9 → k ≤ 9) → IsExpression (e.Member x0 x1) l n → IsExpression (e.Member x0 x1) k n
+pub move_Member : (x0 : Expression) (x1 : Name) (l k : ℕ) (n : Next) → (l ≤ 9 → k ≤ 9) → IsExpression (e.Member x0 x1) l n → IsExpression (e.Member x0 x1) k n
 move_Member x0 x1 l k n fit good = rule_in2 (eq.rule_Member x0 x1) k n (let u = rule_out2 (eq.rule_Member x0 x1) l n good in (fit u.0, u.1))
 
 pub at_Projection : (x0 : Expression) (x1 : ℕ) (l : ℕ) (n : Next) → IsExpression (e.Projection x0 x1) l n → l ≤ 9
@@ -322,10 +323,10 @@ at_Constant x0 l n good = rule_out2 (eq.rule_Constant x0) l n good
 pub move_Constant : (x0 : Literal) (l k : ℕ) (n : Next) → (l ≤ 10 → k ≤ 10) → IsExpression (e.Constant x0) l n → IsExpression (e.Constant x0) k n
 move_Constant x0 l k n fit good = rule_in2 (eq.rule_Constant x0) k n (let u = rule_out2 (eq.rule_Constant x0) l n good in fit u)
 
-pub at_Variable : (x0 : List ℕ) (l : ℕ) (n : Next) → IsExpression (e.Variable x0) l n → l ≤ 10
+pub at_Variable : (x0 : Name) (l : ℕ) (n : Next) → IsExpression (e.Variable x0) l n → l ≤ 10
 at_Variable x0 l n good = rule_out2 (eq.rule_Variable x0) l n good
 
-pub move_Variable : (x0 : List ℕ) (l k : ℕ) (n : Next) → (l ≤ 10 → k ≤ 10) → IsExpression (e.Variable x0) l n → IsExpression (e.Variable x0) k n
+pub move_Variable : (x0 : Name) (l k : ℕ) (n : Next) → (l ≤ 10 → k ≤ 10) → IsExpression (e.Variable x0) l n → IsExpression (e.Variable x0) k n
 move_Variable x0 l k n fit good = rule_in2 (eq.rule_Variable x0) k n (let u = rule_out2 (eq.rule_Variable x0) l n good in fit u)
 
 pub at_Parenthesized : (x0 : List Expression) (l : ℕ) (n : Next) → IsExpression (e.Parenthesized x0) l n → l ≤ 10

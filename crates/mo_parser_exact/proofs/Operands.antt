@@ -1,6 +1,7 @@
 -- Operands are read exactly.
 use Rattle.std.proofs.Common.{◌≡◌, ℕ, zero, suc, ◌+◌, ◌<◌, ◌≤◌, Bool, true, false, List, [], ◌∷◌, ◌++◌, length, map, option_map, Option, Some, None, refl, sym, ap, ◌∙◌, subst, arith, append_assoc}
 use Rattle.std.specs.Prelude.{◌≢◌, if◌then◌else◌}
+use Rattle.mo_syntax.specs.declared.name.Name.{Name}
 use Rattle.mo_syntax.specs.declared.token.TokenKind.{TokenKind}
 use Rattle.mo_syntax.specs.declared.token.TokenKind.TheVariants as t
 use Rattle.mo_syntax.specs.declared.word.Word.TheVariants as w
@@ -50,8 +51,8 @@ pub record Inner (b : ℕ) (P : ℕ → Parser Expression) (D : Parser Declarati
   pub declaration : Exact bound D declaration_tokens (λ x n. IsDeclaration x n) EndsExpression
   pub must_begin : (i : Input) → s.begins (look i) ≡ false → P 0 i ≡ None
   pub must_begin_postfix : (i : Input) → s.begins_postfix (look i) ≡ false → P 9 i ≡ None
-  pub no_func : (x : List ℕ) (i : Input) → s.begins_parameters (look i) ≡ true → P 0 (t.Reserved w.Func ∷ t.Identifier x ∷ i) ≡ None
-  pub no_object : (x : List ℕ) (i : Input) → P 0 (t.Reserved w.Object ∷ t.Identifier x ∷ i) ≡ None
+  pub no_func : (x : Name) (i : Input) → s.begins_parameters (look i) ≡ true → P 0 (t.Reserved w.Func ∷ t.Identifier x ∷ i) ≡ None
+  pub no_object : (x : Name) (i : Input) → P 0 (t.Reserved w.Object ∷ t.Identifier x ∷ i) ≡ None
   pub no_end : (j : Input) → D (brace ∷ j) ≡ None
 
 -- ---- what may stand behind
@@ -112,14 +113,14 @@ to_array z = e.Array z.0 z.1
 abbrev pub to_record : List ExpressionField × Bool → Expression
 to_record z = e.Object z.0 z.1
 
-abbrev pub to_tagged : List ℕ × Option Expression → Expression
+abbrev pub to_tagged : Name × Option Expression → Expression
 to_tagged z = e.Tagged z.0 z.1
 
 abbrev pub to_call : Expression → Option (List TypeExpression) × List Expression → Expression
 to_call a z = e.Call a z.0 z.1
 
 abbrev EntryOf : ExpressionField → Type 0
-EntryOf y = (z : Bool × (List ℕ × (Option TypeExpression × Option Expression))) × (y ≡ p.to_entry z)
+EntryOf y = (z : Bool × (Name × (Option TypeExpression × Option Expression))) × (y ≡ p.to_entry z)
 
 abbrev entry_claims : Claims
 entry_claims = record { of_Declaration = λ x. Unit {0}; of_Expression = λ x. Unit {0}; of_DeclarationField = λ x. Unit {0}; of_Case = λ x. Unit {0}; of_ExpressionField = EntryOf }
@@ -179,17 +180,17 @@ entry_cases = record {
 entry_of : (y : ExpressionField) → EntryOf y
 entry_of = holds_ExpressionField entry_claims entry_cases
 
-entry_good : (z : Bool × (List ℕ × (Option TypeExpression × Option Expression))) (n : Next) →
+entry_good : (z : Bool × (Name × (Option TypeExpression × Option Expression))) (n : Next) →
     Within (λ y. IsType y 0) z.1.1.0 × Within (λ y. IsExpression y 0 n) z.1.1.1 → IsExpressionField (p.to_entry z) n
 entry_good (a, (x, (kind, None))) n good = subst (λ (r : Next → Type 0). r n) (sym (eq.rule_ExpressionField _)) (good.0, tt)
 entry_good (a, (x, (kind, Some y))) n good = subst (λ (r : Next → Type 0). r n) (sym (eq.rule_ExpressionField _)) (good.0, good.1)
 
-entry_fact : (z : Bool × (List ℕ × (Option TypeExpression × Option Expression))) (n : Next) → IsExpressionField (p.to_entry z) n →
+entry_fact : (z : Bool × (Name × (Option TypeExpression × Option Expression))) (n : Next) → IsExpressionField (p.to_entry z) n →
     Within (λ y. IsType y 0) z.1.1.0 × Within (λ y. IsExpression y 0 n) z.1.1.1
 entry_fact (a, (x, (kind, None))) n good = (let u = subst (λ (r : Next → Type 0). r n) (eq.rule_ExpressionField _) good in (u.0, tt))
 entry_fact (a, (x, (kind, Some y))) n good = (let u = subst (λ (r : Next → Type 0). r n) (eq.rule_ExpressionField _) good in (u.0, u.1))
 
-entry_text : (z : Bool × (List ℕ × (Option TypeExpression × Option Expression))) → expression_field_tokens (p.to_entry z) ≡
+entry_text : (z : Bool × (Name × (Option TypeExpression × Option Expression))) → expression_field_tokens (p.to_entry z) ≡
     W.marked z.0 (t.Reserved w.Var) ++ ((t.Identifier z.1.0 ∷ []) ++ (W.annotation (option_map type_tokens z.1.1.0) ++ W.led (t.Mark m.EqualSign) (option_map expression_tokens z.1.1.1)))
 entry_text z = eq.tokens_ExpressionField z.0 z.1.0 z.1.1.0 z.1.1.1
 
@@ -285,7 +286,7 @@ module _ (b : ℕ) (P : ℕ → Parser Expression) (D : Parser Declaration) (h :
   abbrev AtomRead : Expression → Type 0
   AtomRead x = (r : Input) → length (expression_tokens x) < suc b → IsExpression x 9 (first r) → p.atom P D (expression_tokens x ++ r) ≡ Some (x, r)
 
-  pub read_variable : (x : List ℕ) → AtomRead (e.Variable x)
+  pub read_variable : (x : Name) → AtomRead (e.Variable x)
   unfolding p.atom p.variable
   read_variable x r short good = makes_as (a_name (suc b)) e.Variable expression_tokens x (eq.tokens_Variable x) (p.atom P D) r refl short tt tt
 

@@ -1,6 +1,7 @@
 -- The expressions that begin with a word are read exactly.
 use Rattle.std.proofs.Common.{◌≡◌, ℕ, suc, ◌<◌, Bool, true, false, List, [], ◌∷◌, ◌++◌, length, map, option_map, Option, Some, None, refl, sym, ap, ◌∙◌}
 use Rattle.std.specs.Prelude.{◌≢◌}
+use Rattle.mo_syntax.specs.declared.name.Name.{Name}
 use Rattle.mo_syntax.specs.declared.token.TokenKind.{TokenKind}
 use Rattle.mo_syntax.specs.declared.token.TokenKind.TheVariants as t
 use Rattle.mo_syntax.specs.declared.word.Word.{Word}
@@ -58,11 +59,11 @@ loop_fact : (z : Expression × Option Expression) (n : Next) → IsExpression (e
 loop_fact (a, None) n g = let u = rule_out2 (eq.rule_Loop a None) 0 n g in (u.1, u.2)
 loop_fact (a, Some o) n g = let u = rule_out2 (eq.rule_Loop a (Some o)) 0 n g in (u.1, u.2)
 
-break_good : (z : List ℕ × Option Expression) (n : Next) → Standing z.1 n → IsExpression (e.Break z.0 z.1) 0 n
+break_good : (z : Name × Option Expression) (n : Next) → Standing z.1 n → IsExpression (e.Break z.0 z.1) 0 n
 break_good (x, None) n g = rule_in2 (eq.rule_Break x None) 0 n (refl, begins_same n ∙ g)
 break_good (x, Some a) n g = rule_in2 (eq.rule_Break x (Some a)) 0 n (refl, g)
 
-break_fact : (z : List ℕ × Option Expression) (n : Next) → IsExpression (e.Break z.0 z.1) 0 n → Standing z.1 n
+break_fact : (z : Name × Option Expression) (n : Next) → IsExpression (e.Break z.0 z.1) 0 n → Standing z.1 n
 break_fact (x, None) n g = sym (begins_same n) ∙ (rule_out2 (eq.rule_Break x None) 0 n g).1
 break_fact (x, Some a) n g = (rule_out2 (eq.rule_Break x (Some a)) 0 n g).1
 
@@ -214,17 +215,17 @@ module _ (b : ℕ) (P : ℕ → Parser Expression) (D : Parser Declaration) (h :
   read_For q a c r short good ends =
       makes_behind (t.Reserved w.For) for_parts (λ z. e.For z.0.0 z.0.1 z.1) expression_tokens ((q, a), c) (eq.tokens_For q a c) (p.whole P D) r refl short (let u = rule_out2 (eq.rule_For q a c) 0 (first r) good in ((u.1, u.2), u.3)) ends
 
-  pub read_Label : (x : List ℕ) (k : Option TypeExpression) (a : Expression) (r : Input) → length (expression_tokens (e.Label x k a)) < suc b → IsExpression (e.Label x k a) 0 (first r) → EndsExpression (first r) → p.whole P D (expression_tokens (e.Label x k a) ++ r) ≡ Some (e.Label x k a, r)
+  pub read_Label : (x : Name) (k : Option TypeExpression) (a : Expression) (r : Input) → length (expression_tokens (e.Label x k a)) < suc b → IsExpression (e.Label x k a) 0 (first r) → EndsExpression (first r) → p.whole P D (expression_tokens (e.Label x k a) ++ r) ≡ Some (e.Label x k a, r)
   unfolding p.whole p.worded p.label_rule
   read_Label x k a r short good ends =
       makes_behind (t.Reserved w.Label) label_parts (λ z. e.Label z.0 z.1.0 z.1.1) expression_tokens (x, (k, a)) (eq.tokens_Label x k a) (p.whole P D) r refl short (let u = rule_out2 (eq.rule_Label x k a) 0 (first r) good in (tt, (u.1, u.2))) ends
 
-  pub read_Break : (x : List ℕ) (o : Option Expression) (r : Input) → length (expression_tokens (e.Break x o)) < suc b → IsExpression (e.Break x o) 0 (first r) → EndsExpression (first r) → p.whole P D (expression_tokens (e.Break x o) ++ r) ≡ Some (e.Break x o, r)
+  pub read_Break : (x : Name) (o : Option Expression) (r : Input) → length (expression_tokens (e.Break x o)) < suc b → IsExpression (e.Break x o) 0 (first r) → EndsExpression (first r) → p.whole P D (expression_tokens (e.Break x o) ++ r) ≡ Some (e.Break x o, r)
   unfolding p.whole p.worded p.break_rule
   read_Break x o r short good ends =
       makes_behind (t.Reserved w.Break) break_parts (λ z. e.Break z.0 z.1) expression_tokens (x, o) (eq.tokens_Break x o) (p.whole P D) r refl short (tt, break_fact (x, o) (first r) good) ends
 
-  pub read_Continue : (x : List ℕ) (r : Input) → length (expression_tokens (e.Continue x)) < suc b → IsExpression (e.Continue x) 0 (first r) → EndsExpression (first r) → p.whole P D (expression_tokens (e.Continue x) ++ r) ≡ Some (e.Continue x, r)
+  pub read_Continue : (x : Name) (r : Input) → length (expression_tokens (e.Continue x)) < suc b → IsExpression (e.Continue x) 0 (first r) → EndsExpression (first r) → p.whole P D (expression_tokens (e.Continue x) ++ r) ≡ Some (e.Continue x, r)
   unfolding p.whole p.worded
   read_Continue x r short good ends =
       makes_behind (t.Reserved w.Continue) (a_name b) e.Continue expression_tokens x (eq.tokens_Continue x) (p.whole P D) r refl short tt tt

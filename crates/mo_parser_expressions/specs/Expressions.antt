@@ -1,5 +1,6 @@
 -- Reading expressions and declarations from left to right, rule by rule.
 use Rattle.std.specs.Prelude.{ℕ, zero, suc, ◌+◌, ◌==◌, Bool, true, false, ◌&&◌, if◌then◌else◌, nat_lt, List, length, Option, Some, None}
+use Rattle.mo_syntax.specs.declared.name.Name.{Name}
 use Rattle.mo_syntax.specs.declared.token.TokenKind.TheVariants as t
 use Rattle.mo_syntax.specs.declared.word.Word.{Word}
 use Rattle.mo_syntax.specs.declared.word.Word.TheVariants as w
@@ -30,7 +31,7 @@ use Rattle.mo_parser_expressions.specs.Signs.{operator, level_at, goes, assignme
 
 -- ---- the trees of what is read
 
-abbrev pub to_entry : Bool × (List ℕ × (Option TypeExpression × Option Expression)) → ExpressionField
+abbrev pub to_entry : Bool × (Name × (Option TypeExpression × Option Expression)) → ExpressionField
 to_entry z = roll-ExpressionField (record { mutable = z.0; name = z.1.0; annotation = z.1.1.0; value = z.1.1.1 })
 
 abbrev pub to_case : Pattern × Expression → Case
@@ -45,7 +46,7 @@ Signature = Parameters × (Option TypeExpression × Bool)
 abbrev pub to_function : Signature × Expression → Expression
 to_function z = e.Function z.0.0 z.0.1.0 z.0.1.1 z.1
 
-abbrev pub to_func : List ℕ × (Option (List TypeParameter) × (Signature × Expression)) → Declaration
+abbrev pub to_func : Name × (Option (List TypeParameter) × (Signature × Expression)) → Declaration
 to_func z = d.Func z.0 z.1.0 z.1.1.0.0 z.1.1.0.1.0 z.1.1.0.1.1 z.1.1.1
 
 abbrev pub to_optional : Bool → Expression → Expression

@@ -1,6 +1,7 @@
 -- Patterns without `or` and type are read exactly.
 use Rattle.std.proofs.Common.{◌≡◌, ℕ, zero, suc, ◌+◌, ◌<◌, ◌≤◌, Bool, true, false, List, [], ◌∷◌, ◌++◌, length, map, option_map, Option, Some, None, refl, sym, ap, ◌∙◌, subst, arith, append_assoc}
 use Rattle.std.specs.Prelude.{◌≢◌, if◌then◌else◌}
+use Rattle.mo_syntax.specs.declared.name.Name.{Name}
 use Rattle.mo_syntax.specs.declared.token.TokenKind.{TokenKind}
 use Rattle.mo_syntax.specs.declared.token.TokenKind.TheVariants as t
 use Rattle.mo_syntax.specs.declared.word.Word.TheVariants as w
@@ -149,7 +150,7 @@ module _ (b : ℕ) (P : ℕ → Parser Pattern) (h : Inner b P) where
   abbrev to_object : List PatternField × Bool → Pattern
   to_object z = e.Object z.0 z.1
 
-  abbrev to_tagged : List ℕ × Option Pattern → Pattern
+  abbrev to_tagged : Name × Option Pattern → Pattern
   to_tagged z = e.Tagged z.0 z.1
 
   abbrev At : ℕ → Pattern → Next → Type 0
@@ -177,7 +178,7 @@ module _ (b : ℕ) (P : ℕ → Parser Pattern) (h : Inner b P) where
   abbrev Read : Pattern → Type 0
   Read x = (r : Input) → length (pattern_tokens x) < suc b → IsPattern x 3 → Any (first r) → p.atom P (pattern_tokens x ++ r) ≡ Some (x, r)
 
-  read_variable : (x : List ℕ) → Read (e.Variable x)
+  read_variable : (x : Name) → Read (e.Variable x)
   unfolding p.atom p.variable
   read_variable x r short good stops = makes_as (a_name (suc b)) e.Variable pattern_tokens x (eq.tokens_Variable x) (p.atom P) r refl short tt tt
 
@@ -249,7 +250,7 @@ module _ (b : ℕ) (P : ℕ → Parser Pattern) (h : Inner b P) where
   unfolding p.unary
   alone_optional x r short good stops = makes_behind (t.Mark m.Question) h.unary e.Optional pattern_tokens x (eq.tokens_Optional x) (p.unary P) r refl short (rule_out (eq.rule_Optional x) 2 good).1 stops
 
-  alone_tagged : (x : List ℕ) (o : Option Pattern) → Alone (e.Tagged x o)
+  alone_tagged : (x : Name) (o : Option Pattern) → Alone (e.Tagged x o)
   unfolding p.unary p.tagged
   alone_tagged x o r short good stops = makes_behind (t.Mark m.Tag) tagged_parts to_tagged pattern_tokens (x, o) (eq.tokens_Tagged x o) (p.unary P) r refl short (tt, (rule_out (eq.rule_Tagged x o) 2 good).1) stops
 

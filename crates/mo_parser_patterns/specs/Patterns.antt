@@ -1,5 +1,6 @@
 -- Reading patterns from left to right, rule by rule.
 use Rattle.std.specs.Prelude.{ℕ, zero, suc, ◌+◌, Bool, true, false, if◌then◌else◌, List, length, Option, Some, None}
+use Rattle.mo_syntax.specs.declared.name.Name.{Name}
 use Rattle.mo_syntax.specs.declared.token.TokenKind.TheVariants as t
 use Rattle.mo_syntax.specs.declared.word.Word.{Word}
 use Rattle.mo_syntax.specs.declared.word.Word.TheVariants as w
@@ -16,7 +17,7 @@ use Rattle.mo_parser_base.specs.declared.look.Look.TheVariants as l
 use Rattle.mo_parser_base.specs.Input.{Parser, ◌>>=◌, ◌>>◌, ◌<$>◌, ◌&◌, ◌▸◌, pure, refuse, peek, skip, eat, behind, identifier, literal, commas, semicolons}
 use Rattle.mo_parser_types.specs.Types.{annotation}
 
-abbrev pub to_field : List ℕ × Option Pattern → PatternField
+abbrev pub to_field : Name × Option Pattern → PatternField
 to_field z = roll-PatternField (record { name = z.0; pattern = z.1 })
 
 abbrev pub annotated : Pattern → Option TypeExpression → Pattern

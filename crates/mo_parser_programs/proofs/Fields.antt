@@ -1,6 +1,7 @@
 -- The fields of an actor are read exactly.
-use Rattle.std.proofs.Common.{◌≡◌, ℕ, ◌<◌, Bool, true, false, List, [], ◌∷◌, ◌++◌, length, map, option_map, Option, Some, None, refl, sym, ap, ◌∙◌, arith, append_assoc}
+use Rattle.std.proofs.Common.{◌≡◌, ℕ, ◌<◌, Bool, true, false, [], ◌∷◌, ◌++◌, length, map, option_map, Option, Some, None, refl, sym, ap, ◌∙◌, arith, append_assoc}
 use Rattle.std.specs.Prelude.{◌≢◌}
+use Rattle.mo_syntax.specs.declared.name.Name.{Name}
 use Rattle.mo_syntax.specs.declared.token.TokenKind.TheVariants as t
 use Rattle.mo_syntax.specs.declared.word.Word.{Word}
 use Rattle.mo_syntax.specs.declared.word.Word.TheVariants as w
@@ -35,7 +36,7 @@ abbrev FieldAt : ActorField → Next → Type 0
 FieldAt x n = IsActorField x n
 
 abbrev Stable : Type 0
-Stable = List ℕ × (Option TypeExpression × Expression)
+Stable = Name × (Option TypeExpression × Expression)
 
 abbrev stable_written : Stable → Input
 stable_written z = t.Reserved w.Var ∷ ((t.Identifier z.0 ∷ []) ++ (W.annotation (option_map type_tokens z.1.0) ++ t.Mark m.EqualSign ∷ expression_tokens z.1.1))

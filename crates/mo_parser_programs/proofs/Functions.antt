@@ -1,6 +1,7 @@
 -- Public functions, system functions and their headings are read exactly.
-use Rattle.std.proofs.Common.{◌≡◌, ℕ, ◌<◌, Bool, true, false, List, [], ◌∷◌, ◌++◌, length, Some, None, refl, sym, ap, ◌∙◌, arith, append_assoc}
+use Rattle.std.proofs.Common.{◌≡◌, ℕ, ◌<◌, Bool, true, false, [], ◌∷◌, ◌++◌, length, Some, None, refl, sym, ap, ◌∙◌, arith, append_assoc}
 use Rattle.std.specs.Prelude.{◌≢◌}
+use Rattle.mo_syntax.specs.declared.name.Name.{Name}
 use Rattle.mo_syntax.specs.declared.token.TokenKind.TheVariants as t
 use Rattle.mo_syntax.specs.declared.word.Word.TheVariants as w
 use Rattle.mo_syntax.specs.declared.mark.Mark.{Mark}
@@ -49,7 +50,7 @@ heading_exact b = fewer (led_by (t.Reserved w.Func) tt (both (a_name b) (both (p
     (both (fewer (led_by (t.Mark m.Colon) tt (a_type_exact b))) (ends_by (flag b (t.Mark m.EqualSign) tt) (λ n stops. stops.0)) (λ y r short good stops. result_ends y (first r) stops))
     (λ y r short good stops. tt)) (λ y r short good stops. tt)))
 
-abbrev system_written : List ℕ × Bool → Input
+abbrev system_written : Name × Bool → Input
 system_written z = t.Reserved w.Func ∷ ((t.Identifier z.0 ∷ []) ++ (t.Mark m.ParenOpen ∷ t.Mark m.ParenClose ∷ W.marked z.1 (t.Mark m.EqualSign)))
 
 system_heading_exact : (b : ℕ) → Exact b g.system_heading system_written (λ z n. Unit {0} × Unit {0}) (λ n. n ≢ Some (t.Mark m.EqualSign))
@@ -120,11 +121,11 @@ module _ (b : ℕ) where
         good = two.good;
       }) h2))
 
-  pub system_done : (x : List ℕ) (equal_sign : Bool) (a : Expression) (r : Input) → length (actor_field_tokens (field.System x equal_sign a)) < b → IsBody equal_sign a (first r) → EndsExpression (first r) →
+  pub system_done : (x : Name) (equal_sign : Bool) (a : Expression) (r : Input) → length (actor_field_tokens (field.System x equal_sign a)) < b → IsBody equal_sign a (first r) → EndsExpression (first r) →
       g.system_function ((system_written (x, equal_sign) ++ expression_tokens a) ++ r) ≡ Some (field.System x equal_sign a, r)
   unfolding g.system_function
   system_done x equal_sign a r short good stops =
-      let z : List ℕ × Bool = (x, equal_sign) in
+      let z : Name × Bool = (x, equal_sign) in
       let i : Input = expression_tokens a ++ r in
       let less : length (system_written z ++ expression_tokens a) < b = omega arith in
       let small : length (expression_tokens a) < b = shorter_right (system_written z) (expression_tokens a) b less in

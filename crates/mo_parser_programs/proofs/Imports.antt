@@ -3,6 +3,7 @@ use Rattle.std.proofs.Common.{◌≡◌, ℕ, zero, suc, ◌≤◌, false, List,
 use Rattle.std.specs.Prelude.{◌≢◌, if◌then◌else◌}
 use Rattle.std.specs.List.{flat_map}
 use Rattle.std.proofs.lemmas.List.{append-nil}
+use Rattle.mo_syntax.specs.declared.name.Name.{Name}
 use Rattle.mo_syntax.specs.declared.token.TokenKind.TheVariants as t
 use Rattle.mo_syntax.specs.declared.word.Word.TheVariants as w
 use Rattle.mo_syntax.specs.declared.mark.Mark.TheVariants as m
@@ -79,21 +80,21 @@ imports_exact b = record {
 
 -- ---- `[id]`
 
-name_by_ok : (a : Look) (i : Input) (y : Option (List ℕ)) (r : Input) → look i ≡ a → g.name_by a i ≡ Some (y, r) → Took name_tokens Always y i r
+name_by_ok : (a : Look) (i : Input) (y : Option Name) (r : Input) → look i ≡ a → g.name_by a i ≡ Some (y, r) → Took name_tokens Always y i r
 name_by_ok l.Identifier i y r is h = made (a_name 0) (λ x. Some x) name_tokens Always (λ z. refl) (λ z n good. tt) i y r h
 name_by_ok _ i y r is h = took_as None i y r (record { text = refl; good = tt }) h
 
-name_none : (r : Input) → ((x : List ℕ) → first r ≢ Some (t.Identifier x)) → g.a_name r ≡ Some (None, r)
+name_none : (r : Input) → ((x : Name) → first r ≢ Some (t.Identifier x)) → g.a_name r ≡ Some (None, r)
 unfolding g.a_name
 name_none [] differs = refl
 name_none (t.Identifier x ∷ r) differs = absurd (differs x refl)
 name_none (_ ∷ r) differs = refl
 
-name_done : (x : Option (List ℕ)) (r : Input) → ((y : List ℕ) → first r ≢ Some (t.Identifier y)) → g.a_name (name_tokens x ++ r) ≡ Some (x, r)
+name_done : (x : Option Name) (r : Input) → ((y : Name) → first r ≢ Some (t.Identifier y)) → g.a_name (name_tokens x ++ r) ≡ Some (x, r)
 unfolding g.a_name identifier
 name_done None r differs = name_none r differs
 name_done (Some x) r differs = refl
 
-pub name_exact : (b : ℕ) → Exact b g.a_name name_tokens Always (λ n. (x : List ℕ) → n ≢ Some (t.Identifier x))
+pub name_exact : (b : ℕ) → Exact b g.a_name name_tokens Always (λ n. (x : Name) → n ≢ Some (t.Identifier x))
 unfolding g.a_name
 name_exact b = record { sound = λ i y r h. name_by_ok (look i) i y r refl h; complete = λ x r short good stops. name_done x r stops }

@@ -1,7 +1,8 @@
 -- Programs are read exactly.
-use Rattle.std.proofs.Common.{◌≡◌, ℕ, suc, Bool, true, false, List, [], ◌∷◌, ◌++◌, length, map, Some, refl, sym, ap, ◌∙◌, subst, arith}
+use Rattle.std.proofs.Common.{◌≡◌, ℕ, suc, Bool, true, false, [], ◌∷◌, ◌++◌, length, map, Some, refl, sym, ap, ◌∙◌, subst, arith}
 use Rattle.std.specs.Prelude.{◌≢◌}
 use Rattle.std.proofs.lemmas.List.{append-nil}
+use Rattle.mo_syntax.specs.declared.name.Name.{Name}
 use Rattle.mo_syntax.specs.declared.token.TokenKind.TheVariants as t
 use Rattle.mo_syntax.specs.declared.word.Word.TheVariants as w
 use Rattle.mo_syntax.specs.declared.mark.Mark.TheVariants as m
@@ -17,7 +18,7 @@ use Rattle.mo_parser_programs.specs.Programs as g
 use Rattle.mo_parser_programs.proofs.Imports.{imports_exact, name_exact}
 use Rattle.mo_parser_programs.proofs.Fields.{actor_fields_exact}
 
-not_name : (y : Bool) (v : Input) (n : Next) (x : List ℕ) → ahead (W.marked y (t.Mark m.EqualSign) ++ t.Mark m.BraceOpen ∷ v) n ≢ Some (t.Identifier x)
+not_name : (y : Bool) (v : Input) (n : Next) (x : Name) → ahead (W.marked y (t.Mark m.EqualSign) ++ t.Mark m.BraceOpen ∷ v) n ≢ Some (t.Identifier x)
 not_name true v n x = λ u. cc
 not_name false v n x = λ u. cc
 

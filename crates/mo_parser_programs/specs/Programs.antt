@@ -1,5 +1,6 @@
 -- Reading programs from left to right, rule by rule.
 use Rattle.std.specs.Prelude.{ℕ, zero, suc, Bool, true, false, if◌then◌else◌, List, [], ◌∷◌, ◌++◌, length, Option, Some, None}
+use Rattle.mo_syntax.specs.declared.name.Name.{Name}
 use Rattle.mo_syntax.specs.declared.token.TokenKind.TheVariants as t
 use Rattle.mo_syntax.specs.declared.word.Word.TheVariants as w
 use Rattle.mo_syntax.specs.declared.mark.Mark.TheVariants as m
@@ -26,10 +27,10 @@ use Rattle.mo_parser_expressions.specs.Expressions.{an_expression, a_declaration
 
 -- ---- the trees of what is read
 
-abbrev pub to_import : List ℕ × (Bool × List ℕ) → Import
+abbrev pub to_import : Name × (Bool × List ℕ) → Import
 to_import z = record { name = z.0; equal_sign = z.1.0; path = z.1.1 }
 
-abbrev pub to_actor : Option (List ℕ) × (Bool × (List ActorField × Bool)) → Actor
+abbrev pub to_actor : Option Name × (Bool × (List ActorField × Bool)) → Actor
 to_actor z = record { name = z.0; equal_sign = z.1.0; fields = z.1.1.0; semicolon = z.1.1.1 }
 
 abbrev pub to_tree : List Import × (Actor × Bool) → Tree
@@ -44,7 +45,7 @@ to_prefix z = record { sort = z.0; context = z.1 }
 
 -- a name, parameters, a result type, and whether a `=` follows
 abbrev pub Heading : Type 0
-Heading = List ℕ × (Parameters × (TypeExpression × Bool))
+Heading = Name × (Parameters × (TypeExpression × Bool))
 
 abbrev pub to_function : Option SharedPrefix × (Heading × Expression) → SharedFunction
 to_function z = record { prefix = z.0; name = z.1.0.0; parameters = z.1.0.1.0; result = z.1.0.1.1.0; equal_sign = z.1.0.1.1.1; body = z.1.1 }
@@ -68,12 +69,12 @@ imports_from (suc n) found = do
 unfoldable pub imports : Parser (List Import)
 imports = λ i. imports_from (length i) [] i
 
-abbrev pub name_by : Look → Parser (Option (List ℕ))
+abbrev pub name_by : Look → Parser (Option Name)
 name_by l.Identifier = Some <$> identifier
 name_by _ = pure None
 
 -- `[id]`
-unfoldable pub a_name : Parser (Option (List ℕ))
+unfoldable pub a_name : Parser (Option Name)
 a_name = peek >>= name_by
 
 abbrev pub context_by : Look → Parser (Option Context)
@@ -111,7 +112,7 @@ unfoldable pub shared_function : Parser SharedFunction
 shared_function = to_function <$> (a_prefix & headed)
 
 -- behind `system`: the name, and whether a `=` follows
-unfoldable pub system_heading : Parser (List ℕ × Bool)
+unfoldable pub system_heading : Parser (Name × Bool)
 system_heading = t.Reserved w.Func ▸ (identifier & (t.Mark m.ParenOpen ▸ (t.Mark m.ParenClose ▸ eat (t.Mark m.EqualSign))))
 
 unfoldable pub system_function : Parser ActorField

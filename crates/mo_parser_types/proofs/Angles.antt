@@ -1,6 +1,7 @@
 -- What stands in `< >` is read exactly.
 use Rattle.std.proofs.Common.{◌≡◌, ℕ, List, [], ◌∷◌, ◌++◌, map, option_map, Option, Some, None, refl}
 use Rattle.std.specs.Prelude.{◌≢◌}
+use Rattle.mo_syntax.specs.declared.name.Name.{Name}
 use Rattle.mo_syntax.specs.declared.token.TokenKind.{TokenKind}
 use Rattle.mo_syntax.specs.declared.token.TokenKind.TheVariants as t
 use Rattle.mo_syntax.specs.declared.mark.Mark.TheVariants as m
@@ -21,7 +22,7 @@ angles_text : {A : Type 0} (w : A → Input) (x : Option (List A)) →
 angles_text w None = refl
 angles_text w (Some xs) = refl
 
-bound_text : (x : Option TypeExpression) (y : List ℕ) → type_parameter_tokens (p.to_parameter (y, x)) ≡ (t.Identifier y ∷ []) ++ W.led (t.Mark m.Subtype) (option_map type_tokens x)
+bound_text : (x : Option TypeExpression) (y : Name) → type_parameter_tokens (p.to_parameter (y, x)) ≡ (t.Identifier y ∷ []) ++ W.led (t.Mark m.Subtype) (option_map type_tokens x)
 bound_text x y = refl
 
 abbrev not_open : Next → Type 0

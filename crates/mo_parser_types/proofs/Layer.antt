@@ -1,6 +1,7 @@
 -- The types that no `->` joins are read exactly.
 use Rattle.std.proofs.Common.{◌≡◌, ℕ, suc, ◌<◌, Bool, true, false, List, [], ◌∷◌, ◌++◌, length, map, option_map, Option, Some, None, refl, sym, ap, ◌∙◌, subst, arith}
 use Rattle.std.specs.Prelude.{◌≢◌}
+use Rattle.mo_syntax.specs.declared.name.Name.{Name}
 use Rattle.mo_syntax.specs.declared.token.TokenKind.TheVariants as t
 use Rattle.mo_syntax.specs.declared.word.Word.TheVariants as w
 use Rattle.mo_syntax.specs.declared.mark.Mark.TheVariants as m
@@ -30,7 +31,7 @@ use Rattle.mo_parser_types.proofs.Parts.{Inner, field_of, tag_of, field_text, ta
 abbrev pub AtPrefix : TypeExpression → Next → Type 0
 AtPrefix x n = IsType x 1
 
-named_text : (z : List ℕ × Option (List TypeExpression)) → type_tokens (e.Named z.0 z.1) ≡
+named_text : (z : Name × Option (List TypeExpression)) → type_tokens (e.Named z.0 z.1) ≡
     (t.Identifier z.0 ∷ []) ++ W.led (t.Mark m.AngleOpen) (option_map (λ xs. W.commas (map type_tokens xs) ++ t.Mark m.AngleClose ∷ []) z.1)
 named_text (x, None) = eq.tokens_Named x None
 named_text (x, Some xs) = eq.tokens_Named x (Some xs)
@@ -41,7 +42,7 @@ module _ (b : ℕ) (P : ℕ → Parser TypeExpression) (h : Inner b P) where
   unfolding p.arguments
   named_parts = both (a_name (suc b)) (behind_by (t.Mark m.AngleOpen) tt (types_exact b P h)) (λ y r short good stops. tt)
 
-  named_good : (z : List ℕ × Option (List TypeExpression)) → Within (λ xs. Listed (λ x s. IsType x 0) comma (t.Mark m.AngleClose) xs) z.1 → IsType (e.Named z.0 z.1) 1
+  named_good : (z : Name × Option (List TypeExpression)) → Within (λ xs. Listed (λ x s. IsType x 0) comma (t.Mark m.AngleClose) xs) z.1 → IsType (e.Named z.0 z.1) 1
   named_good z good = rule_in (eq.rule_Named z.0 z.1) 1 (within_listed_each (λ a. IsType a 0) comma (t.Mark m.AngleClose) z.1 good)
 
   not_var : (y : TypeExpression) (r : Input) → length (type_tokens y) < b → IsType y 0 → EndsType (first r) → ahead (type_tokens y) (first r) ≢ Some (t.Reserved w.Var)
@@ -51,7 +52,7 @@ module _ (b : ℕ) (P : ℕ → Parser TypeExpression) (h : Inner b P) where
       (λ z n. Unit {0} × IsType z.1 0) Any
   array_parts = ended_by (t.Mark m.BracketClose) tt (both (flag b (t.Reserved w.Var) tt) h.whole not_var) (λ e. cc, λ e. cc)
 
-  abbrev to_named : List ℕ × Option (List TypeExpression) → TypeExpression
+  abbrev to_named : Name × Option (List TypeExpression) → TypeExpression
   to_named z = e.Named z.0 z.1
 
   abbrev to_array : Bool × TypeExpression → TypeExpression
@@ -159,7 +160,7 @@ module _ (b : ℕ) (P : ℕ → Parser TypeExpression) (h : Inner b P) where
   read_async a r short good stops =
       makes_behind (t.Reserved w.Async) h.prefix e.Async type_tokens a (eq.tokens_Async a) (p.layer P) r refl short (rule_out (eq.rule_Async a) 1 good).1 stops
 
-  read_named : (x : List ℕ) (o : Option (List TypeExpression)) → Read (e.Named x o)
+  read_named : (x : Name) (o : Option (List TypeExpression)) → Read (e.Named x o)
   unfolding p.layer p.named
   read_named x o r short good stops =
       makes_as named_parts to_named type_tokens (x, o) (named_text (x, o)) (p.layer P) r refl short
@@ -179,7 +180,7 @@ module _ (b : ℕ) (P : ℕ → Parser TypeExpression) (h : Inner b P) where
   abbrev Fields : List TypeField × Bool → Input
   Fields z = W.semicolons (map type_field_tokens z.0) z.1 ++ brace ∷ []
 
-  field_plain : (z : Bool × (List ℕ × TypeExpression)) (i : Input) →
+  field_plain : (z : Bool × (Name × TypeExpression)) (i : Input) →
       p.braced P ((W.marked z.0 (t.Reserved w.Var) ++ (((t.Identifier z.1.0 ∷ []) ++ t.Mark m.Colon ∷ []) ++ type_tokens z.1.1)) ++ i)
       ≡ p.object P false ((W.marked z.0 (t.Reserved w.Var) ++ (((t.Identifier z.1.0 ∷ []) ++ t.Mark m.Colon ∷ []) ++ type_tokens z.1.1)) ++ i)
   unfolding p.braced

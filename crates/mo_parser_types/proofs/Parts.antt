@@ -1,6 +1,7 @@
 -- The parts of types are read exactly.
-use Rattle.std.proofs.Common.{◌≡◌, ℕ, Bool, List, [], ◌∷◌, ◌++◌, length, map, option_map, Option, Some, None, refl, sym, ap, ◌∙◌, append_assoc, ◌<◌}
+use Rattle.std.proofs.Common.{◌≡◌, ℕ, Bool, [], ◌∷◌, ◌++◌, length, map, option_map, Option, Some, None, refl, sym, ap, ◌∙◌, append_assoc, ◌<◌}
 use Rattle.std.specs.Prelude.{◌≢◌}
+use Rattle.mo_syntax.specs.declared.name.Name.{Name}
 use Rattle.mo_syntax.specs.declared.token.TokenKind.TheVariants as t
 use Rattle.mo_syntax.specs.declared.word.Word.TheVariants as w
 use Rattle.mo_syntax.specs.declared.mark.Mark.TheVariants as m
@@ -68,16 +69,16 @@ tag_of = holds_TypeTag claims cases
 
 -- ---- their writing
 
-pub field_text : (z : Bool × (List ℕ × TypeExpression)) → type_field_tokens (p.to_field z) ≡ W.marked z.0 (t.Reserved w.Var) ++ (((t.Identifier z.1.0 ∷ []) ++ t.Mark m.Colon ∷ []) ++ type_tokens z.1.1)
+pub field_text : (z : Bool × (Name × TypeExpression)) → type_field_tokens (p.to_field z) ≡ W.marked z.0 (t.Reserved w.Var) ++ (((t.Identifier z.1.0 ∷ []) ++ t.Mark m.Colon ∷ []) ++ type_tokens z.1.1)
 field_text z = eq.tokens_TypeField z.0 z.1.0 z.1.1
 
-item_text : (z : Option (List ℕ) × TypeExpression) → type_item_tokens (p.to_item z) ≡ item_name z.0 ++ type_tokens z.1
+item_text : (z : Option Name × TypeExpression) → type_item_tokens (p.to_item z) ≡ item_name z.0 ++ type_tokens z.1
 item_text z = eq.tokens_TypeItem z.0 z.1
 
-method_text : (z : List ℕ × TypeExpression) → type_method_tokens (p.to_method z) ≡ ((t.Identifier z.0 ∷ []) ++ t.Mark m.Colon ∷ []) ++ type_tokens z.1
+method_text : (z : Name × TypeExpression) → type_method_tokens (p.to_method z) ≡ ((t.Identifier z.0 ∷ []) ++ t.Mark m.Colon ∷ []) ++ type_tokens z.1
 method_text z = eq.tokens_TypeMethod z.0 z.1
 
-pub tag_text : (z : List ℕ × Option TypeExpression) → type_tag_tokens (p.to_tag z) ≡ (t.Mark m.Tag ∷ t.Identifier z.0 ∷ []) ++ W.led (t.Mark m.Colon) (option_map type_tokens z.1)
+pub tag_text : (z : Name × Option TypeExpression) → type_tag_tokens (p.to_tag z) ≡ (t.Mark m.Tag ∷ t.Identifier z.0 ∷ []) ++ W.led (t.Mark m.Colon) (option_map type_tokens z.1)
 tag_text z = eq.tokens_TypeTag z.0 z.1
 
 -- a parser of inner types, to less than so many tokens
@@ -88,7 +89,7 @@ pub record Inner (b : ℕ) (P : ℕ → Parser TypeExpression) : Type 0 where
   pub no_angle : (j : Input) → P 0 (t.Mark m.AngleClose ∷ j) ≡ None
   pub no_var : (j : Input) → P 0 (t.Reserved w.Var ∷ j) ≡ None
   -- a name before a `:` is a whole type
-  pub at_colon : (x : List ℕ) (j : Input) (y : TypeExpression) (r : Input) → P 0 (t.Identifier x ∷ t.Mark m.Colon ∷ j) ≡ Some (y, r) → first r ≡ Some (t.Mark m.Colon)
+  pub at_colon : (x : Name) (j : Input) (y : TypeExpression) (r : Input) → P 0 (t.Identifier x ∷ t.Mark m.Colon ∷ j) ≡ Some (y, r) → first r ≡ Some (t.Mark m.Colon)
 
 module _ (b : ℕ) (P : ℕ → Parser TypeExpression) (h : Inner b P) where
   pub field_exact : Exact b (p.field P) type_field_tokens (λ x n. IsTypeField x) EndsType
@@ -114,11 +115,11 @@ module _ (b : ℕ) (P : ℕ → Parser TypeExpression) (h : Inner b P) where
 
   -- an item's name is told from a type by the `:` behind it
   not_named : (x : TypeExpression) (r : Input) → length (type_tokens x) < b → IsType x 0 → EndsType (first r) → first r ≢ Some (t.Mark m.Colon) →
-      (y : List ℕ) (j : Input) → type_tokens x ++ r ≢ t.Identifier y ∷ t.Mark m.Colon ∷ j
+      (y : Name) (j : Input) → type_tokens x ++ r ≢ t.Identifier y ∷ t.Mark m.Colon ∷ j
   not_named x r short good stops differs y j is =
       differs (h.at_colon y j x r (ap (P 0) (sym is) ∙ h.whole.complete x r short good stops))
 
-  item_done : (z : Option (List ℕ) × TypeExpression) (r : Input) → length (item_name z.0 ++ type_tokens z.1) < b → IsType z.1 0 → EndsType (first r) → first r ≢ Some (t.Mark m.Colon) →
+  item_done : (z : Option Name × TypeExpression) (r : Input) → length (item_name z.0 ++ type_tokens z.1) < b → IsType z.1 0 → EndsType (first r) → first r ≢ Some (t.Mark m.Colon) →
       (label & P 0) (item_name z.0 ++ (type_tokens z.1 ++ r)) ≡ Some (z, r)
   item_done (None, x) r short good stops differs =
       bind_takes (label (type_tokens x ++ r)) _ None (type_tokens x ++ r) (label_leaves (type_tokens x ++ r) (not_named x r short good stops differs))

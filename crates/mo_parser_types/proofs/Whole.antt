@@ -1,7 +1,8 @@
 -- Types are read exactly.
-use Rattle.std.proofs.Common.{◌≡◌, ℕ, zero, suc, ◌+◌, ◌<◌, Bool, true, false, List, ◌∷◌, ◌++◌, length, option_map, Option, Some, None, Result, Ok, Err, refl, sym, ap, ◌∙◌, subst, arith, length-append}
+use Rattle.std.proofs.Common.{◌≡◌, ℕ, zero, suc, ◌+◌, ◌<◌, Bool, true, false, ◌∷◌, ◌++◌, length, option_map, Option, Some, None, Result, Ok, Err, refl, sym, ap, ◌∙◌, subst, arith, length-append}
 use Rattle.std.specs.Prelude.{◌≢◌, IfOk}
 use Rattle.std.proofs.lemmas.List.{append-nil}
+use Rattle.mo_syntax.specs.declared.name.Name.{Name}
 use Rattle.mo_syntax.specs.declared.token.TokenKind.{TokenKind}
 use Rattle.mo_syntax.specs.declared.token.TokenKind.TheVariants as t
 use Rattle.mo_syntax.specs.declared.word.Word.TheVariants as w
@@ -188,7 +189,7 @@ unfolding p.type_at p.level p.whole p.local p.layer after same_word
 no_var_at zero j = refl
 no_var_at (suc d) j = refl
 
-at_colon_at : (d : ℕ) (x : List ℕ) (j : Input) (y : TypeExpression) (r : Input) → p.type_at d 0 (t.Identifier x ∷ t.Mark m.Colon ∷ j) ≡ Some (y, r) → first r ≡ Some (t.Mark m.Colon)
+at_colon_at : (d : ℕ) (x : Name) (j : Input) (y : TypeExpression) (r : Input) → p.type_at d 0 (t.Identifier x ∷ t.Mark m.Colon ∷ j) ≡ Some (y, r) → first r ≡ Some (t.Mark m.Colon)
 unfolding p.type_at p.level p.whole p.local p.layer p.named p.arguments after same_mark identifier
 at_colon_at zero x j y r h = absurd (cc)
 at_colon_at (suc d) x j y r h = sym (ap (λ z. first z.1) (some_is (e.Named x None, t.Mark m.Colon ∷ j) (y, r) h))

@@ -1,5 +1,6 @@
 -- Reading types from left to right, rule by rule.
 use Rattle.std.specs.Prelude.{ℕ, zero, suc, ◌+◌, Bool, true, false, if◌then◌else◌, List, length, Option, Some, None}
+use Rattle.mo_syntax.specs.declared.name.Name.{Name}
 use Rattle.mo_syntax.specs.declared.token.TokenKind.TheVariants as t
 use Rattle.mo_syntax.specs.declared.word.Word.TheVariants as w
 use Rattle.mo_syntax.specs.declared.mark.Mark.TheVariants as m
@@ -21,16 +22,16 @@ abbrev pub sharing_of : Bool → Sharing
 sharing_of true = sharing.SharedQuery
 sharing_of false = sharing.Shared
 
-abbrev pub to_field : Bool × (List ℕ × TypeExpression) → TypeField
+abbrev pub to_field : Bool × (Name × TypeExpression) → TypeField
 to_field z = roll-TypeField (record { mutable = z.0; name = z.1.0; annotation = z.1.1 })
 
-abbrev pub to_item : Option (List ℕ) × TypeExpression → TypeItem
+abbrev pub to_item : Option Name × TypeExpression → TypeItem
 to_item z = roll-TypeItem (record { name = z.0; annotation = z.1 })
 
-abbrev pub to_method : List ℕ × TypeExpression → TypeMethod
+abbrev pub to_method : Name × TypeExpression → TypeMethod
 to_method z = roll-TypeMethod (record { name = z.0; annotation = z.1 })
 
-abbrev pub to_tag : List ℕ × Option TypeExpression → TypeTag
+abbrev pub to_tag : Name × Option TypeExpression → TypeTag
 to_tag z = roll-TypeTag (record { name = z.0; payload = z.1 })
 
 abbrev pub to_shared : Bool × (TypeExpression × TypeExpression) → TypeExpression

@@ -1,5 +1,6 @@
 -- The equations of the writing and of the grammar, at each kind of tree.
 use Rattle.std.proofs.Common.{◌≡◌, ℕ, ◌≤◌, Bool, true, false, List, Option, Some, None, refl, ap, ◌∙◌, sym, map, option_map}
+use Rattle.mo_syntax.specs.declared.name.Name.{Name}
 use Rattle.mo_syntax.specs.declared.declarations.Visibility.{Visibility}
 use Rattle.mo_syntax.specs.declared.token.TokenKind.{TokenKind}
 use Rattle.mo_syntax.specs.declared.token.TokenKind.TheVariants as t
@@ -33,23 +34,23 @@ pub tokens_Let : (x0 : Pattern) (x1 : Expression) → declaration_tokens (d.Let 
 unfolding declaration_tokens expression_tokens declaration_field_tokens case_tokens expression_field_tokens
 tokens_Let x0 x1 = ap declaration_tokens (sym (d.rolls-Let x0 x1)) ∙ fold-roll-Declaration Writing Writing Writing Writing Writing declaration_step expression_step declaration_field_step case_step expression_field_step (F.Let x0 x1)
 
-pub tokens_Var : (x0 : List ℕ) (x1 : Option TypeExpression) (x2 : Expression) → declaration_tokens (d.Var x0 x1 x2) ≡ declaration_step (F.Var x0 x1 (expression_tokens x2))
+pub tokens_Var : (x0 : Name) (x1 : Option TypeExpression) (x2 : Expression) → declaration_tokens (d.Var x0 x1 x2) ≡ declaration_step (F.Var x0 x1 (expression_tokens x2))
 unfolding declaration_tokens expression_tokens declaration_field_tokens case_tokens expression_field_tokens
 tokens_Var x0 x1 x2 = ap declaration_tokens (sym (d.rolls-Var x0 x1 x2)) ∙ fold-roll-Declaration Writing Writing Writing Writing Writing declaration_step expression_step declaration_field_step case_step expression_field_step (F.Var x0 x1 x2)
 
-pub tokens_Func : (x0 : List ℕ) (x1 : Option (List TypeParameter)) (x2 : Parameters) (x3 : Option TypeExpression) (x4 : Bool) (x5 : Expression) → declaration_tokens (d.Func x0 x1 x2 x3 x4 x5) ≡ declaration_step (F.Func x0 x1 x2 x3 x4 (expression_tokens x5))
+pub tokens_Func : (x0 : Name) (x1 : Option (List TypeParameter)) (x2 : Parameters) (x3 : Option TypeExpression) (x4 : Bool) (x5 : Expression) → declaration_tokens (d.Func x0 x1 x2 x3 x4 x5) ≡ declaration_step (F.Func x0 x1 x2 x3 x4 (expression_tokens x5))
 unfolding declaration_tokens expression_tokens declaration_field_tokens case_tokens expression_field_tokens
 tokens_Func x0 x1 x2 x3 x4 x5 = ap declaration_tokens (sym (d.rolls-Func x0 x1 x2 x3 x4 x5)) ∙ fold-roll-Declaration Writing Writing Writing Writing Writing declaration_step expression_step declaration_field_step case_step expression_field_step (F.Func x0 x1 x2 x3 x4 x5)
 
-pub tokens_TypeAlias : (x0 : List ℕ) (x1 : Option (List (List ℕ))) (x2 : TypeExpression) → declaration_tokens (d.TypeAlias x0 x1 x2) ≡ declaration_step (F.TypeAlias x0 x1 x2)
+pub tokens_TypeAlias : (x0 : Name) (x1 : Option (List Name)) (x2 : TypeExpression) → declaration_tokens (d.TypeAlias x0 x1 x2) ≡ declaration_step (F.TypeAlias x0 x1 x2)
 unfolding declaration_tokens expression_tokens declaration_field_tokens case_tokens expression_field_tokens
 tokens_TypeAlias x0 x1 x2 = ap declaration_tokens (sym (d.rolls-TypeAlias x0 x1 x2)) ∙ fold-roll-Declaration Writing Writing Writing Writing Writing declaration_step expression_step declaration_field_step case_step expression_field_step (F.TypeAlias x0 x1 x2)
 
-pub tokens_Class : (x0 : List ℕ) (x1 : Option (List TypeParameter)) (x2 : Parameters) (x3 : List DeclarationField) (x4 : Bool) → declaration_tokens (d.Class x0 x1 x2 x3 x4) ≡ declaration_step (F.Class x0 x1 x2 (map declaration_field_tokens x3) x4)
+pub tokens_Class : (x0 : Name) (x1 : Option (List TypeParameter)) (x2 : Parameters) (x3 : List DeclarationField) (x4 : Bool) → declaration_tokens (d.Class x0 x1 x2 x3 x4) ≡ declaration_step (F.Class x0 x1 x2 (map declaration_field_tokens x3) x4)
 unfolding declaration_tokens expression_tokens declaration_field_tokens case_tokens expression_field_tokens
 tokens_Class x0 x1 x2 x3 x4 = ap declaration_tokens (sym (d.rolls-Class x0 x1 x2 x3 x4)) ∙ fold-roll-Declaration Writing Writing Writing Writing Writing declaration_step expression_step declaration_field_step case_step expression_field_step (F.Class x0 x1 x2 x3 x4)
 
-pub tokens_NamedObject : (x0 : List ℕ) (x1 : List DeclarationField) (x2 : Bool) → declaration_tokens (d.NamedObject x0 x1 x2) ≡ declaration_step (F.NamedObject x0 (map declaration_field_tokens x1) x2)
+pub tokens_NamedObject : (x0 : Name) (x1 : List DeclarationField) (x2 : Bool) → declaration_tokens (d.NamedObject x0 x1 x2) ≡ declaration_step (F.NamedObject x0 (map declaration_field_tokens x1) x2)
 unfolding declaration_tokens expression_tokens declaration_field_tokens case_tokens expression_field_tokens
 tokens_NamedObject x0 x1 x2 = ap declaration_tokens (sym (d.rolls-NamedObject x0 x1 x2)) ∙ fold-roll-Declaration Writing Writing Writing Writing Writing declaration_step expression_step declaration_field_step case_step expression_field_step (F.NamedObject x0 x1 x2)
 
@@ -91,16 +92,16 @@ pub tokens_For : (x0 : Pattern) (x1 : Expression) (x2 : Expression) → expressi
 unfolding declaration_tokens expression_tokens declaration_field_tokens case_tokens expression_field_tokens
 tokens_For x0 x1 x2 = ap expression_tokens (sym (e.rolls-For x0 x1 x2)) ∙ fold-roll-Expression Writing Writing Writing Writing Writing declaration_step expression_step declaration_field_step case_step expression_field_step (F.For x0 x1 x2)
 
-pub tokens_Label : (x0 : List ℕ) (x1 : Option TypeExpression) (x2 : Expression) → expression_tokens (e.Label x0 x1 x2) ≡ expression_step (F.Label x0 x1 (expression_tokens x2))
+pub tokens_Label : (x0 : Name) (x1 : Option TypeExpression) (x2 : Expression) → expression_tokens (e.Label x0 x1 x2) ≡ expression_step (F.Label x0 x1 (expression_tokens x2))
 unfolding declaration_tokens expression_tokens declaration_field_tokens case_tokens expression_field_tokens
 tokens_Label x0 x1 x2 = ap expression_tokens (sym (e.rolls-Label x0 x1 x2)) ∙ fold-roll-Expression Writing Writing Writing Writing Writing declaration_step expression_step declaration_field_step case_step expression_field_step (F.Label x0 x1 x2)
 
-pub tokens_Break : (x0 : List ℕ) (x1 : Option Expression) → expression_tokens (e.Break x0 x1) ≡ expression_step (F.Break x0 (option_map expression_tokens x1))
+pub tokens_Break : (x0 : Name) (x1 : Option Expression) → expression_tokens (e.Break x0 x1) ≡ expression_step (F.Break x0 (option_map expression_tokens x1))
 unfolding declaration_tokens expression_tokens declaration_field_tokens case_tokens expression_field_tokens
 tokens_Break x0 None = ap expression_tokens (sym (e.rolls-Break x0 None)) ∙ fold-roll-Expression Writing Writing Writing Writing Writing declaration_step expression_step declaration_field_step case_step expression_field_step (F.Break x0 None)
 tokens_Break x0 (Some x1) = ap expression_tokens (sym (e.rolls-Break x0 (Some x1))) ∙ fold-roll-Expression Writing Writing Writing Writing Writing declaration_step expression_step declaration_field_step case_step expression_field_step (F.Break x0 (Some x1))
 
-pub tokens_Continue : (x0 : List ℕ) → expression_tokens (e.Continue x0) ≡ expression_step (F.Continue x0)
+pub tokens_Continue : (x0 : Name) → expression_tokens (e.Continue x0) ≡ expression_step (F.Continue x0)
 unfolding declaration_tokens expression_tokens declaration_field_tokens case_tokens expression_field_tokens
 tokens_Continue x0 = ap expression_tokens (sym (e.rolls-Continue x0)) ∙ fold-roll-Expression Writing Writing Writing Writing Writing declaration_step expression_step declaration_field_step case_step expression_field_step (F.Continue x0)
 
@@ -161,12 +162,12 @@ pub tokens_Not : (x0 : Expression) → expression_tokens (e.Not x0) ≡ expressi
 unfolding declaration_tokens expression_tokens declaration_field_tokens case_tokens expression_field_tokens
 tokens_Not x0 = ap expression_tokens (sym (e.rolls-Not x0)) ∙ fold-roll-Expression Writing Writing Writing Writing Writing declaration_step expression_step declaration_field_step case_step expression_field_step (F.Not x0)
 
-pub tokens_Tagged : (x0 : List ℕ) (x1 : Option Expression) → expression_tokens (e.Tagged x0 x1) ≡ expression_step (F.Tagged x0 (option_map expression_tokens x1))
+pub tokens_Tagged : (x0 : Name) (x1 : Option Expression) → expression_tokens (e.Tagged x0 x1) ≡ expression_step (F.Tagged x0 (option_map expression_tokens x1))
 unfolding declaration_tokens expression_tokens declaration_field_tokens case_tokens expression_field_tokens
 tokens_Tagged x0 None = ap expression_tokens (sym (e.rolls-Tagged x0 None)) ∙ fold-roll-Expression Writing Writing Writing Writing Writing declaration_step expression_step declaration_field_step case_step expression_field_step (F.Tagged x0 None)
 tokens_Tagged x0 (Some x1) = ap expression_tokens (sym (e.rolls-Tagged x0 (Some x1))) ∙ fold-roll-Expression Writing Writing Writing Writing Writing declaration_step expression_step declaration_field_step case_step expression_field_step (F.Tagged x0 (Some x1))
 
-pub tokens_Member : (x0 : Expression) (x1 : List ℕ) → expression_tokens (e.Member x0 x1) ≡ expression_step (F.Member (expression_tokens x0) x1)
+pub tokens_Member : (x0 : Expression) (x1 : Name) → expression_tokens (e.Member x0 x1) ≡ expression_step (F.Member (expression_tokens x0) x1)
 unfolding declaration_tokens expression_tokens declaration_field_tokens case_tokens expression_field_tokens
 tokens_Member x0 x1 = ap expression_tokens (sym (e.rolls-Member x0 x1)) ∙ fold-roll-Expression Writing Writing Writing Writing Writing declaration_step expression_step declaration_field_step case_step expression_field_step (F.Member x0 x1)
 
@@ -190,7 +191,7 @@ pub tokens_Constant : (x0 : Literal) → expression_tokens (e.Constant x0) ≡ e
 unfolding declaration_tokens expression_tokens declaration_field_tokens case_tokens expression_field_tokens
 tokens_Constant x0 = ap expression_tokens (sym (e.rolls-Constant x0)) ∙ fold-roll-Expression Writing Writing Writing Writing Writing declaration_step expression_step declaration_field_step case_step expression_field_step (F.Constant x0)
 
-pub tokens_Variable : (x0 : List ℕ) → expression_tokens (e.Variable x0) ≡ expression_step (F.Variable x0)
+pub tokens_Variable : (x0 : Name) → expression_tokens (e.Variable x0) ≡ expression_step (F.Variable x0)
 unfolding declaration_tokens expression_tokens declaration_field_tokens case_tokens expression_field_tokens
 tokens_Variable x0 = ap expression_tokens (sym (e.rolls-Variable x0)) ∙ fold-roll-Expression Writing Writing Writing Writing Writing declaration_step expression_step declaration_field_step case_step expression_field_step (F.Variable x0)
 
@@ -222,7 +223,7 @@ pub tokens_Case : (pattern : Pattern) (body : Expression) → case_tokens (roll-
 unfolding declaration_tokens expression_tokens declaration_field_tokens case_tokens expression_field_tokens
 tokens_Case pattern body = fold-roll-Case Writing Writing Writing Writing Writing declaration_step expression_step declaration_field_step case_step expression_field_step (record { pattern = pattern; body = body })
 
-pub tokens_ExpressionField : (mutable : Bool) (name : List ℕ) (annotation : Option TypeExpression) (value : Option Expression) → expression_field_tokens (roll-ExpressionField (record { mutable = mutable; name = name; annotation = annotation; value = value })) ≡ expression_field_step (record { mutable = mutable; name = name; annotation = annotation; value = (option_map expression_tokens value) })
+pub tokens_ExpressionField : (mutable : Bool) (name : Name) (annotation : Option TypeExpression) (value : Option Expression) → expression_field_tokens (roll-ExpressionField (record { mutable = mutable; name = name; annotation = annotation; value = value })) ≡ expression_field_step (record { mutable = mutable; name = name; annotation = annotation; value = (option_map expression_tokens value) })
 unfolding declaration_tokens expression_tokens declaration_field_tokens case_tokens expression_field_tokens
 tokens_ExpressionField mutable name annotation None = fold-roll-ExpressionField Writing Writing Writing Writing Writing declaration_step expression_step declaration_field_step case_step expression_field_step (record { mutable = mutable; name = name; annotation = annotation; value = None })
 tokens_ExpressionField mutable name annotation (Some value) = fold-roll-ExpressionField Writing Writing Writing Writing Writing declaration_step expression_step declaration_field_step case_step expression_field_step (record { mutable = mutable; name = name; annotation = annotation; value = (Some value) })
@@ -312,7 +313,7 @@ abbrev ExpressionFieldSteps : (A B C D E : Type 0) (v0 : A → Declaration) (v1 
 ExpressionFieldSteps A B C D E v0 v1 v2 v3 v4 q0 q1 q2 q3 q4 x =
     expression_field_rule A B C D E (λ a. expression_tokens (v1 a)) (λ p. q0 (v0 p)) (λ p. q1 (v1 p)) (λ p. q2 (v2 p)) (λ p. q3 (v3 p)) (λ p. q4 (v4 p)) x ≡ expression_field_rule Declaration Expression DeclarationField Case ExpressionField expression_tokens q0 q1 q2 q3 q4 (map-ExpressionField A B C D E Declaration Expression DeclarationField Case ExpressionField v0 v1 v2 v3 v4 x)
 
-ExpressionField_cases : (A B C D E : Type 0) (v0 : A → Declaration) (v1 : B → Expression) (v2 : C → DeclarationField) (v3 : D → Case) (v4 : E → ExpressionField) (q0 : Declaration → Option TokenKind → Type 0) (q1 : Expression → ℕ → Option TokenKind → Type 0) (q2 : DeclarationField → Option TokenKind → Type 0) (q3 : Case → Option TokenKind → Type 0) (q4 : ExpressionField → Option TokenKind → Type 0) (mutable_ : Bool) (name_ : List ℕ) (annotation_ : Option TypeExpression) (value_ : Option B) → ExpressionFieldSteps A B C D E v0 v1 v2 v3 v4 q0 q1 q2 q3 q4 (record { mutable = mutable_; name = name_; annotation = annotation_; value = value_ })
+ExpressionField_cases : (A B C D E : Type 0) (v0 : A → Declaration) (v1 : B → Expression) (v2 : C → DeclarationField) (v3 : D → Case) (v4 : E → ExpressionField) (q0 : Declaration → Option TokenKind → Type 0) (q1 : Expression → ℕ → Option TokenKind → Type 0) (q2 : DeclarationField → Option TokenKind → Type 0) (q3 : Case → Option TokenKind → Type 0) (q4 : ExpressionField → Option TokenKind → Type 0) (mutable_ : Bool) (name_ : Name) (annotation_ : Option TypeExpression) (value_ : Option B) → ExpressionFieldSteps A B C D E v0 v1 v2 v3 v4 q0 q1 q2 q3 q4 (record { mutable = mutable_; name = name_; annotation = annotation_; value = value_ })
 ExpressionField_cases A B C D E v0 v1 v2 v3 v4 q0 q1 q2 q3 q4 mutable_ name_ annotation_ None = refl
 ExpressionField_cases A B C D E v0 v1 v2 v3 v4 q0 q1 q2 q3 q4 mutable_ name_ annotation_ (Some y) = refl
 
@@ -327,19 +328,19 @@ rule_Declaration = rec-roll-Declaration (Option TokenKind → Type 0) (ℕ → O
 pub rule_Let : (x0 : Pattern) (x1 : Expression) → IsDeclaration (d.Let x0 x1) ≡ declaration_rule Declaration Expression DeclarationField Case ExpressionField expression_tokens IsDeclaration IsExpression IsDeclarationField IsCase IsExpressionField (F.Let x0 x1)
 rule_Let x0 x1 = ap IsDeclaration (sym (d.rolls-Let x0 x1)) ∙ rule_Declaration (F.Let x0 x1)
 
-pub rule_Var : (x0 : List ℕ) (x1 : Option TypeExpression) (x2 : Expression) → IsDeclaration (d.Var x0 x1 x2) ≡ declaration_rule Declaration Expression DeclarationField Case ExpressionField expression_tokens IsDeclaration IsExpression IsDeclarationField IsCase IsExpressionField (F.Var x0 x1 x2)
+pub rule_Var : (x0 : Name) (x1 : Option TypeExpression) (x2 : Expression) → IsDeclaration (d.Var x0 x1 x2) ≡ declaration_rule Declaration Expression DeclarationField Case ExpressionField expression_tokens IsDeclaration IsExpression IsDeclarationField IsCase IsExpressionField (F.Var x0 x1 x2)
 rule_Var x0 x1 x2 = ap IsDeclaration (sym (d.rolls-Var x0 x1 x2)) ∙ rule_Declaration (F.Var x0 x1 x2)
 
-pub rule_Func : (x0 : List ℕ) (x1 : Option (List TypeParameter)) (x2 : Parameters) (x3 : Option TypeExpression) (x4 : Bool) (x5 : Expression) → IsDeclaration (d.Func x0 x1 x2 x3 x4 x5) ≡ declaration_rule Declaration Expression DeclarationField Case ExpressionField expression_tokens IsDeclaration IsExpression IsDeclarationField IsCase IsExpressionField (F.Func x0 x1 x2 x3 x4 x5)
+pub rule_Func : (x0 : Name) (x1 : Option (List TypeParameter)) (x2 : Parameters) (x3 : Option TypeExpression) (x4 : Bool) (x5 : Expression) → IsDeclaration (d.Func x0 x1 x2 x3 x4 x5) ≡ declaration_rule Declaration Expression DeclarationField Case ExpressionField expression_tokens IsDeclaration IsExpression IsDeclarationField IsCase IsExpressionField (F.Func x0 x1 x2 x3 x4 x5)
 rule_Func x0 x1 x2 x3 x4 x5 = ap IsDeclaration (sym (d.rolls-Func x0 x1 x2 x3 x4 x5)) ∙ rule_Declaration (F.Func x0 x1 x2 x3 x4 x5)
 
-pub rule_TypeAlias : (x0 : List ℕ) (x1 : Option (List (List ℕ))) (x2 : TypeExpression) → IsDeclaration (d.TypeAlias x0 x1 x2) ≡ declaration_rule Declaration Expression DeclarationField Case ExpressionField expression_tokens IsDeclaration IsExpression IsDeclarationField IsCase IsExpressionField (F.TypeAlias x0 x1 x2)
+pub rule_TypeAlias : (x0 : Name) (x1 : Option (List Name)) (x2 : TypeExpression) → IsDeclaration (d.TypeAlias x0 x1 x2) ≡ declaration_rule Declaration Expression DeclarationField Case ExpressionField expression_tokens IsDeclaration IsExpression IsDeclarationField IsCase IsExpressionField (F.TypeAlias x0 x1 x2)
 rule_TypeAlias x0 x1 x2 = ap IsDeclaration (sym (d.rolls-TypeAlias x0 x1 x2)) ∙ rule_Declaration (F.TypeAlias x0 x1 x2)
 
-pub rule_Class : (x0 : List ℕ) (x1 : Option (List TypeParameter)) (x2 : Parameters) (x3 : List DeclarationField) (x4 : Bool) → IsDeclaration (d.Class x0 x1 x2 x3 x4) ≡ declaration_rule Declaration Expression DeclarationField Case ExpressionField expression_tokens IsDeclaration IsExpression IsDeclarationField IsCase IsExpressionField (F.Class x0 x1 x2 x3 x4)
+pub rule_Class : (x0 : Name) (x1 : Option (List TypeParameter)) (x2 : Parameters) (x3 : List DeclarationField) (x4 : Bool) → IsDeclaration (d.Class x0 x1 x2 x3 x4) ≡ declaration_rule Declaration Expression DeclarationField Case ExpressionField expression_tokens IsDeclaration IsExpression IsDeclarationField IsCase IsExpressionField (F.Class x0 x1 x2 x3 x4)
 rule_Class x0 x1 x2 x3 x4 = ap IsDeclaration (sym (d.rolls-Class x0 x1 x2 x3 x4)) ∙ rule_Declaration (F.Class x0 x1 x2 x3 x4)
 
-pub rule_NamedObject : (x0 : List ℕ) (x1 : List DeclarationField) (x2 : Bool) → IsDeclaration (d.NamedObject x0 x1 x2) ≡ declaration_rule Declaration Expression DeclarationField Case ExpressionField expression_tokens IsDeclaration IsExpression IsDeclarationField IsCase IsExpressionField (F.NamedObject x0 x1 x2)
+pub rule_NamedObject : (x0 : Name) (x1 : List DeclarationField) (x2 : Bool) → IsDeclaration (d.NamedObject x0 x1 x2) ≡ declaration_rule Declaration Expression DeclarationField Case ExpressionField expression_tokens IsDeclaration IsExpression IsDeclarationField IsCase IsExpressionField (F.NamedObject x0 x1 x2)
 rule_NamedObject x0 x1 x2 = ap IsDeclaration (sym (d.rolls-NamedObject x0 x1 x2)) ∙ rule_Declaration (F.NamedObject x0 x1 x2)
 
 pub rule_Evaluate : (x0 : Expression) → IsDeclaration (d.Evaluate x0) ≡ declaration_rule Declaration Expression DeclarationField Case ExpressionField expression_tokens IsDeclaration IsExpression IsDeclarationField IsCase IsExpressionField (F.Evaluate x0)
@@ -374,13 +375,13 @@ rule_Loop x0 x1 = ap IsExpression (sym (e.rolls-Loop x0 x1)) ∙ rule_Expression
 pub rule_For : (x0 : Pattern) (x1 : Expression) (x2 : Expression) → IsExpression (e.For x0 x1 x2) ≡ expression_rule Declaration Expression DeclarationField Case ExpressionField expression_tokens IsDeclaration IsExpression IsDeclarationField IsCase IsExpressionField (F.For x0 x1 x2)
 rule_For x0 x1 x2 = ap IsExpression (sym (e.rolls-For x0 x1 x2)) ∙ rule_Expression (F.For x0 x1 x2)
 
-pub rule_Label : (x0 : List ℕ) (x1 : Option TypeExpression) (x2 : Expression) → IsExpression (e.Label x0 x1 x2) ≡ expression_rule Declaration Expression DeclarationField Case ExpressionField expression_tokens IsDeclaration IsExpression IsDeclarationField IsCase IsExpressionField (F.Label x0 x1 x2)
+pub rule_Label : (x0 : Name) (x1 : Option TypeExpression) (x2 : Expression) → IsExpression (e.Label x0 x1 x2) ≡ expression_rule Declaration Expression DeclarationField Case ExpressionField expression_tokens IsDeclaration IsExpression IsDeclarationField IsCase IsExpressionField (F.Label x0 x1 x2)
 rule_Label x0 x1 x2 = ap IsExpression (sym (e.rolls-Label x0 x1 x2)) ∙ rule_Expression (F.Label x0 x1 x2)
 
-pub rule_Break : (x0 : List ℕ) (x1 : Option Expression) → IsExpression (e.Break x0 x1) ≡ expression_rule Declaration Expression DeclarationField Case ExpressionField expression_tokens IsDeclaration IsExpression IsDeclarationField IsCase IsExpressionField (F.Break x0 x1)
+pub rule_Break : (x0 : Name) (x1 : Option Expression) → IsExpression (e.Break x0 x1) ≡ expression_rule Declaration Expression DeclarationField Case ExpressionField expression_tokens IsDeclaration IsExpression IsDeclarationField IsCase IsExpressionField (F.Break x0 x1)
 rule_Break x0 x1 = ap IsExpression (sym (e.rolls-Break x0 x1)) ∙ rule_Expression (F.Break x0 x1)
 
-pub rule_Continue : (x0 : List ℕ) → IsExpression (e.Continue x0) ≡ expression_rule Declaration Expression DeclarationField Case ExpressionField expression_tokens IsDeclaration IsExpression IsDeclarationField IsCase IsExpressionField (F.Continue x0)
+pub rule_Continue : (x0 : Name) → IsExpression (e.Continue x0) ≡ expression_rule Declaration Expression DeclarationField Case ExpressionField expression_tokens IsDeclaration IsExpression IsDeclarationField IsCase IsExpressionField (F.Continue x0)
 rule_Continue x0 = ap IsExpression (sym (e.rolls-Continue x0)) ∙ rule_Expression (F.Continue x0)
 
 pub rule_Return : (x0 : Option Expression) → IsExpression (e.Return x0) ≡ expression_rule Declaration Expression DeclarationField Case ExpressionField expression_tokens IsDeclaration IsExpression IsDeclarationField IsCase IsExpressionField (F.Return x0)
@@ -425,10 +426,10 @@ rule_Negative x0 = ap IsExpression (sym (e.rolls-Negative x0)) ∙ rule_Expressi
 pub rule_Not : (x0 : Expression) → IsExpression (e.Not x0) ≡ expression_rule Declaration Expression DeclarationField Case ExpressionField expression_tokens IsDeclaration IsExpression IsDeclarationField IsCase IsExpressionField (F.Not x0)
 rule_Not x0 = ap IsExpression (sym (e.rolls-Not x0)) ∙ rule_Expression (F.Not x0)
 
-pub rule_Tagged : (x0 : List ℕ) (x1 : Option Expression) → IsExpression (e.Tagged x0 x1) ≡ expression_rule Declaration Expression DeclarationField Case ExpressionField expression_tokens IsDeclaration IsExpression IsDeclarationField IsCase IsExpressionField (F.Tagged x0 x1)
+pub rule_Tagged : (x0 : Name) (x1 : Option Expression) → IsExpression (e.Tagged x0 x1) ≡ expression_rule Declaration Expression DeclarationField Case ExpressionField expression_tokens IsDeclaration IsExpression IsDeclarationField IsCase IsExpressionField (F.Tagged x0 x1)
 rule_Tagged x0 x1 = ap IsExpression (sym (e.rolls-Tagged x0 x1)) ∙ rule_Expression (F.Tagged x0 x1)
 
-pub rule_Member : (x0 : Expression) (x1 : List ℕ) → IsExpression (e.Member x0 x1) ≡ expression_rule Declaration Expression DeclarationField Case ExpressionField expression_tokens IsDeclaration IsExpression IsDeclarationField IsCase IsExpressionField (F.Member x0 x1)
+pub rule_Member : (x0 : Expression) (x1 : Name) → IsExpression (e.Member x0 x1) ≡ expression_rule Declaration Expression DeclarationField Case ExpressionField expression_tokens IsDeclaration IsExpression IsDeclarationField IsCase IsExpressionField (F.Member x0 x1)
 rule_Member x0 x1 = ap IsExpression (sym (e.rolls-Member x0 x1)) ∙ rule_Expression (F.Member x0 x1)
 
 pub rule_Projection : (x0 : Expression) (x1 : ℕ) → IsExpression (e.Projection x0 x1) ≡ expression_rule Declaration Expression DeclarationField Case ExpressionField expression_tokens IsDeclaration IsExpression IsDeclarationField IsCase IsExpressionField (F.Projection x0 x1)
@@ -446,7 +447,7 @@ rule_Bang x0 = ap IsExpression (sym (e.rolls-Bang x0)) ∙ rule_Expression (F.Ba
 pub rule_Constant : (x0 : Literal) → IsExpression (e.Constant x0) ≡ expression_rule Declaration Expression DeclarationField Case ExpressionField expression_tokens IsDeclaration IsExpression IsDeclarationField IsCase IsExpressionField (F.Constant x0)
 rule_Constant x0 = ap IsExpression (sym (e.rolls-Constant x0)) ∙ rule_Expression (F.Constant x0)
 
-pub rule_Variable : (x0 : List ℕ) → IsExpression (e.Variable x0) ≡ expression_rule Declaration Expression DeclarationField Case ExpressionField expression_tokens IsDeclaration IsExpression IsDeclarationField IsCase IsExpressionField (F.Variable x0)
+pub rule_Variable : (x0 : Name) → IsExpression (e.Variable x0) ≡ expression_rule Declaration Expression DeclarationField Case ExpressionField expression_tokens IsDeclaration IsExpression IsDeclarationField IsCase IsExpressionField (F.Variable x0)
 rule_Variable x0 = ap IsExpression (sym (e.rolls-Variable x0)) ∙ rule_Expression (F.Variable x0)
 
 pub rule_Parenthesized : (x0 : List Expression) → IsExpression (e.Parenthesized x0) ≡ expression_rule Declaration Expression DeclarationField Case ExpressionField expression_tokens IsDeclaration IsExpression IsDeclarationField IsCase IsExpressionField (F.Parenthesized x0)

@@ -1,5 +1,6 @@
 -- Induction over trees: what holds of a tree where it holds of its parts holds of each tree.
 use Rattle.std.proofs.Common.{ℕ, Bool, List, Option, Some, None, subst, sym, map}
+use Rattle.mo_syntax.specs.declared.name.Name.{Name}
 use Rattle.mo_syntax.specs.declared.declarations.Visibility.{Visibility}
 use Rattle.mo_syntax.specs.declared.types.TypeExpression.{TypeExpression}
 use Rattle.mo_syntax.specs.declared.types.TypeParameter.{TypeParameter}
@@ -30,11 +31,11 @@ pub record Claims : Type 1 where
 -- what holds of a tree where it holds of its parts
 pub record Cases (C : Claims) : Type 0 where
   pub Let : (x0 : Pattern) (x1 : Expression) → C.of_Expression x1 → C.of_Declaration (d.Let x0 x1)
-  pub Var : (x0 : List ℕ) (x1 : Option TypeExpression) (x2 : Expression) → C.of_Expression x2 → C.of_Declaration (d.Var x0 x1 x2)
-  pub Func : (x0 : List ℕ) (x1 : Option (List TypeParameter)) (x2 : Parameters) (x3 : Option TypeExpression) (x4 : Bool) (x5 : Expression) → C.of_Expression x5 → C.of_Declaration (d.Func x0 x1 x2 x3 x4 x5)
-  pub TypeAlias : (x0 : List ℕ) (x1 : Option (List (List ℕ))) (x2 : TypeExpression) → C.of_Declaration (d.TypeAlias x0 x1 x2)
-  pub Class : (x0 : List ℕ) (x1 : Option (List TypeParameter)) (x2 : Parameters) (x3 : List DeclarationField) (x4 : Bool) → Each C.of_DeclarationField x3 → C.of_Declaration (d.Class x0 x1 x2 x3 x4)
-  pub NamedObject : (x0 : List ℕ) (x1 : List DeclarationField) (x2 : Bool) → Each C.of_DeclarationField x1 → C.of_Declaration (d.NamedObject x0 x1 x2)
+  pub Var : (x0 : Name) (x1 : Option TypeExpression) (x2 : Expression) → C.of_Expression x2 → C.of_Declaration (d.Var x0 x1 x2)
+  pub Func : (x0 : Name) (x1 : Option (List TypeParameter)) (x2 : Parameters) (x3 : Option TypeExpression) (x4 : Bool) (x5 : Expression) → C.of_Expression x5 → C.of_Declaration (d.Func x0 x1 x2 x3 x4 x5)
+  pub TypeAlias : (x0 : Name) (x1 : Option (List Name)) (x2 : TypeExpression) → C.of_Declaration (d.TypeAlias x0 x1 x2)
+  pub Class : (x0 : Name) (x1 : Option (List TypeParameter)) (x2 : Parameters) (x3 : List DeclarationField) (x4 : Bool) → Each C.of_DeclarationField x3 → C.of_Declaration (d.Class x0 x1 x2 x3 x4)
+  pub NamedObject : (x0 : Name) (x1 : List DeclarationField) (x2 : Bool) → Each C.of_DeclarationField x1 → C.of_Declaration (d.NamedObject x0 x1 x2)
   pub Evaluate : (x0 : Expression) → C.of_Expression x0 → C.of_Declaration (d.Evaluate x0)
   pub Assign : (x0 : AssignmentOperator) (x1 : Expression) (x2 : Expression) → C.of_Expression x1 → C.of_Expression x2 → C.of_Expression (e.Assign x0 x1 x2)
   pub Annotated : (x0 : Expression) (x1 : TypeExpression) → C.of_Expression x0 → C.of_Expression (e.Annotated x0 x1)
@@ -44,9 +45,9 @@ pub record Cases (C : Claims) : Type 0 where
   pub While : (x0 : Expression) (x1 : Expression) → C.of_Expression x0 → C.of_Expression x1 → C.of_Expression (e.While x0 x1)
   pub Loop : (x0 : Expression) (x1 : Option Expression) → C.of_Expression x0 → Within C.of_Expression x1 → C.of_Expression (e.Loop x0 x1)
   pub For : (x0 : Pattern) (x1 : Expression) (x2 : Expression) → C.of_Expression x1 → C.of_Expression x2 → C.of_Expression (e.For x0 x1 x2)
-  pub Label : (x0 : List ℕ) (x1 : Option TypeExpression) (x2 : Expression) → C.of_Expression x2 → C.of_Expression (e.Label x0 x1 x2)
-  pub Break : (x0 : List ℕ) (x1 : Option Expression) → Within C.of_Expression x1 → C.of_Expression (e.Break x0 x1)
-  pub Continue : (x0 : List ℕ) → C.of_Expression (e.Continue x0)
+  pub Label : (x0 : Name) (x1 : Option TypeExpression) (x2 : Expression) → C.of_Expression x2 → C.of_Expression (e.Label x0 x1 x2)
+  pub Break : (x0 : Name) (x1 : Option Expression) → Within C.of_Expression x1 → C.of_Expression (e.Break x0 x1)
+  pub Continue : (x0 : Name) → C.of_Expression (e.Continue x0)
   pub Return : (x0 : Option Expression) → Within C.of_Expression x0 → C.of_Expression (e.Return x0)
   pub Do : (x0 : Expression) → C.of_Expression x0 → C.of_Expression (e.Do x0)
   pub DoOptional : (x0 : Expression) → C.of_Expression x0 → C.of_Expression (e.DoOptional x0)
@@ -61,14 +62,14 @@ pub record Cases (C : Claims) : Type 0 where
   pub Optional : (x0 : Expression) → C.of_Expression x0 → C.of_Expression (e.Optional x0)
   pub Negative : (x0 : Expression) → C.of_Expression x0 → C.of_Expression (e.Negative x0)
   pub Not : (x0 : Expression) → C.of_Expression x0 → C.of_Expression (e.Not x0)
-  pub Tagged : (x0 : List ℕ) (x1 : Option Expression) → Within C.of_Expression x1 → C.of_Expression (e.Tagged x0 x1)
-  pub Member : (x0 : Expression) (x1 : List ℕ) → C.of_Expression x0 → C.of_Expression (e.Member x0 x1)
+  pub Tagged : (x0 : Name) (x1 : Option Expression) → Within C.of_Expression x1 → C.of_Expression (e.Tagged x0 x1)
+  pub Member : (x0 : Expression) (x1 : Name) → C.of_Expression x0 → C.of_Expression (e.Member x0 x1)
   pub Projection : (x0 : Expression) (x1 : ℕ) → C.of_Expression x0 → C.of_Expression (e.Projection x0 x1)
   pub Index : (x0 : Expression) (x1 : Expression) → C.of_Expression x0 → C.of_Expression x1 → C.of_Expression (e.Index x0 x1)
   pub Call : (x0 : Expression) (x1 : Option (List TypeExpression)) (x2 : List Expression) → C.of_Expression x0 → Each C.of_Expression x2 → C.of_Expression (e.Call x0 x1 x2)
   pub Bang : (x0 : Expression) → C.of_Expression x0 → C.of_Expression (e.Bang x0)
   pub Constant : (x0 : Literal) → C.of_Expression (e.Constant x0)
-  pub Variable : (x0 : List ℕ) → C.of_Expression (e.Variable x0)
+  pub Variable : (x0 : Name) → C.of_Expression (e.Variable x0)
   pub Parenthesized : (x0 : List Expression) → Each C.of_Expression x0 → C.of_Expression (e.Parenthesized x0)
   pub Array : (x0 : Bool) (x1 : List Expression) → Each C.of_Expression x1 → C.of_Expression (e.Array x0 x1)
   pub Object : (x0 : List ExpressionField) (x1 : Bool) → Each C.of_ExpressionField x0 → C.of_Expression (e.Object x0 x1)
@@ -76,7 +77,7 @@ pub record Cases (C : Claims) : Type 0 where
   pub Block : (x0 : List Declaration) (x1 : Bool) → Each C.of_Declaration x0 → C.of_Expression (e.Block x0 x1)
   pub DeclarationField_ : (x0 : Option Visibility) (x1 : Declaration) → C.of_Declaration x1 → C.of_DeclarationField (roll-DeclarationField (record { visibility = x0; declaration = x1 }))
   pub Case_ : (x0 : Pattern) (x1 : Expression) → C.of_Expression x1 → C.of_Case (roll-Case (record { pattern = x0; body = x1 }))
-  pub ExpressionField_ : (x0 : Bool) (x1 : List ℕ) (x2 : Option TypeExpression) (x3 : Option Expression) → Within C.of_Expression x3 → C.of_ExpressionField (roll-ExpressionField (record { mutable = x0; name = x1; annotation = x2; value = x3 }))
+  pub ExpressionField_ : (x0 : Bool) (x1 : Name) (x2 : Option TypeExpression) (x3 : Option Expression) → Within C.of_Expression x3 → C.of_ExpressionField (roll-ExpressionField (record { mutable = x0; name = x1; annotation = x2; value = x3 }))
 
 module _ (C : Claims) (H : Cases C) where
   case_Declaration : (y : Declaration-F (Known C.of_Declaration) (Known C.of_Expression) (Known C.of_DeclarationField) (Known C.of_Case) (Known C.of_ExpressionField)) → C.of_Declaration (roll-Declaration (map-Declaration (Known C.of_Declaration) (Known C.of_Expression) (Known C.of_DeclarationField) (Known C.of_Case) (Known C.of_ExpressionField) Declaration Expression DeclarationField Case ExpressionField (λ z. z.0) (λ z. z.0) (λ z. z.0) (λ z. z.0) (λ z. z.0) y))
@@ -145,7 +146,7 @@ module _ (C : Claims) (H : Cases C) where
   case_Case : (y : F.Case-F (Known C.of_Declaration) (Known C.of_Expression) (Known C.of_DeclarationField) (Known C.of_Case) (Known C.of_ExpressionField)) → C.of_Case (roll-Case (map-Case (Known C.of_Declaration) (Known C.of_Expression) (Known C.of_DeclarationField) (Known C.of_Case) (Known C.of_ExpressionField) Declaration Expression DeclarationField Case ExpressionField (λ z. z.0) (λ z. z.0) (λ z. z.0) (λ z. z.0) (λ z. z.0) y))
   case_Case y = fields_Case y.pattern y.body
 
-  fields_ExpressionField : (x0 : Bool) (x1 : List ℕ) (x2 : Option TypeExpression) (x3 : Option (Known C.of_Expression)) → C.of_ExpressionField (roll-ExpressionField (map-ExpressionField (Known C.of_Declaration) (Known C.of_Expression) (Known C.of_DeclarationField) (Known C.of_Case) (Known C.of_ExpressionField) Declaration Expression DeclarationField Case ExpressionField (λ z. z.0) (λ z. z.0) (λ z. z.0) (λ z. z.0) (λ z. z.0) (record { mutable = x0; name = x1; annotation = x2; value = x3 })))
+  fields_ExpressionField : (x0 : Bool) (x1 : Name) (x2 : Option TypeExpression) (x3 : Option (Known C.of_Expression)) → C.of_ExpressionField (roll-ExpressionField (map-ExpressionField (Known C.of_Declaration) (Known C.of_Expression) (Known C.of_DeclarationField) (Known C.of_Case) (Known C.of_ExpressionField) Declaration Expression DeclarationField Case ExpressionField (λ z. z.0) (λ z. z.0) (λ z. z.0) (λ z. z.0) (λ z. z.0) (record { mutable = x0; name = x1; annotation = x2; value = x3 })))
   fields_ExpressionField x0 x1 x2 None = H.ExpressionField_ x0 x1 x2 None tt
   fields_ExpressionField x0 x1 x2 (Some x3) = H.ExpressionField_ x0 x1 x2 (Some x3.0) x3.1
 

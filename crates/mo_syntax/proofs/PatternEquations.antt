@@ -1,5 +1,6 @@
 -- The equations of the writing and of the grammar, at each kind of tree.
 use Rattle.std.proofs.Common.{◌≡◌, ℕ, Bool, List, Option, Some, None, refl, ap, ◌∙◌, sym, map, option_map}
+use Rattle.mo_syntax.specs.declared.name.Name.{Name}
 use Rattle.mo_syntax.specs.declared.types.TypeExpression.{TypeExpression}
 use Rattle.mo_syntax.specs.declared.literal.Literal.{Literal}
 use Rattle.mo_syntax.specs.declared.patterns.Pattern.{Pattern, Pattern-F, roll-Pattern, fold-roll-Pattern, rec-roll-Pattern, map-Pattern}
@@ -24,12 +25,12 @@ pub tokens_Optional : (x0 : Pattern) → pattern_tokens (e.Optional x0) ≡ patt
 unfolding pattern_tokens pattern_field_tokens
 tokens_Optional x0 = ap pattern_tokens (sym (e.rolls-Optional x0)) ∙ fold-roll-Pattern Writing Writing pattern_step pattern_field_step (F.Optional x0)
 
-pub tokens_Tagged : (x0 : List ℕ) (x1 : Option Pattern) → pattern_tokens (e.Tagged x0 x1) ≡ pattern_step (F.Tagged x0 (option_map pattern_tokens x1))
+pub tokens_Tagged : (x0 : Name) (x1 : Option Pattern) → pattern_tokens (e.Tagged x0 x1) ≡ pattern_step (F.Tagged x0 (option_map pattern_tokens x1))
 unfolding pattern_tokens pattern_field_tokens
 tokens_Tagged x0 None = ap pattern_tokens (sym (e.rolls-Tagged x0 None)) ∙ fold-roll-Pattern Writing Writing pattern_step pattern_field_step (F.Tagged x0 None)
 tokens_Tagged x0 (Some x1) = ap pattern_tokens (sym (e.rolls-Tagged x0 (Some x1))) ∙ fold-roll-Pattern Writing Writing pattern_step pattern_field_step (F.Tagged x0 (Some x1))
 
-pub tokens_Variable : (x0 : List ℕ) → pattern_tokens (e.Variable x0) ≡ pattern_step (F.Variable x0)
+pub tokens_Variable : (x0 : Name) → pattern_tokens (e.Variable x0) ≡ pattern_step (F.Variable x0)
 unfolding pattern_tokens pattern_field_tokens
 tokens_Variable x0 = ap pattern_tokens (sym (e.rolls-Variable x0)) ∙ fold-roll-Pattern Writing Writing pattern_step pattern_field_step (F.Variable x0)
 
@@ -49,7 +50,7 @@ pub tokens_Object : (x0 : List PatternField) (x1 : Bool) → pattern_tokens (e.O
 unfolding pattern_tokens pattern_field_tokens
 tokens_Object x0 x1 = ap pattern_tokens (sym (e.rolls-Object x0 x1)) ∙ fold-roll-Pattern Writing Writing pattern_step pattern_field_step (F.Object x0 x1)
 
-pub tokens_PatternField : (name : List ℕ) (pattern : Option Pattern) → pattern_field_tokens (roll-PatternField (record { name = name; pattern = pattern })) ≡ pattern_field_step (record { name = name; pattern = (option_map pattern_tokens pattern) })
+pub tokens_PatternField : (name : Name) (pattern : Option Pattern) → pattern_field_tokens (roll-PatternField (record { name = name; pattern = pattern })) ≡ pattern_field_step (record { name = name; pattern = (option_map pattern_tokens pattern) })
 unfolding pattern_tokens pattern_field_tokens
 tokens_PatternField name None = fold-roll-PatternField Writing Writing pattern_step pattern_field_step (record { name = name; pattern = None })
 tokens_PatternField name (Some pattern) = fold-roll-PatternField Writing Writing pattern_step pattern_field_step (record { name = name; pattern = (Some pattern) })
@@ -76,7 +77,7 @@ abbrev PatternFieldSteps : (A B : Type 0) (v0 : A → Pattern) (v1 : B → Patte
 PatternFieldSteps A B v0 v1 q0 q1 x =
     pattern_field_rule A B (λ p. q0 (v0 p)) (λ p. q1 (v1 p)) x ≡ pattern_field_rule Pattern PatternField q0 q1 (map-PatternField A B Pattern PatternField v0 v1 x)
 
-PatternField_cases : (A B : Type 0) (v0 : A → Pattern) (v1 : B → PatternField) (q0 : Pattern → ℕ → Type 0) (q1 : PatternField → Type 0) (name_ : List ℕ) (pattern_ : Option A) → PatternFieldSteps A B v0 v1 q0 q1 (record { name = name_; pattern = pattern_ })
+PatternField_cases : (A B : Type 0) (v0 : A → Pattern) (v1 : B → PatternField) (q0 : Pattern → ℕ → Type 0) (q1 : PatternField → Type 0) (name_ : Name) (pattern_ : Option A) → PatternFieldSteps A B v0 v1 q0 q1 (record { name = name_; pattern = pattern_ })
 PatternField_cases A B v0 v1 q0 q1 name_ None = refl
 PatternField_cases A B v0 v1 q0 q1 name_ (Some y) = refl
 
@@ -97,10 +98,10 @@ rule_Alternative x0 x1 = ap IsPattern (sym (e.rolls-Alternative x0 x1)) ∙ rule
 pub rule_Optional : (x0 : Pattern) → IsPattern (e.Optional x0) ≡ pattern_rule Pattern PatternField IsPattern IsPatternField (F.Optional x0)
 rule_Optional x0 = ap IsPattern (sym (e.rolls-Optional x0)) ∙ rule_Pattern (F.Optional x0)
 
-pub rule_Tagged : (x0 : List ℕ) (x1 : Option Pattern) → IsPattern (e.Tagged x0 x1) ≡ pattern_rule Pattern PatternField IsPattern IsPatternField (F.Tagged x0 x1)
+pub rule_Tagged : (x0 : Name) (x1 : Option Pattern) → IsPattern (e.Tagged x0 x1) ≡ pattern_rule Pattern PatternField IsPattern IsPatternField (F.Tagged x0 x1)
 rule_Tagged x0 x1 = ap IsPattern (sym (e.rolls-Tagged x0 x1)) ∙ rule_Pattern (F.Tagged x0 x1)
 
-pub rule_Variable : (x0 : List ℕ) → IsPattern (e.Variable x0) ≡ pattern_rule Pattern PatternField IsPattern IsPatternField (F.Variable x0)
+pub rule_Variable : (x0 : Name) → IsPattern (e.Variable x0) ≡ pattern_rule Pattern PatternField IsPattern IsPatternField (F.Variable x0)
 rule_Variable x0 = ap IsPattern (sym (e.rolls-Variable x0)) ∙ rule_Pattern (F.Variable x0)
 
 pub rule_Wildcard : IsPattern e.Wildcard ≡ pattern_rule Pattern PatternField IsPattern IsPatternField F.Wildcard

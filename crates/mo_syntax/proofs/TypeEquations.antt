@@ -1,5 +1,6 @@
 -- The equations of the writing and of the grammar, at each kind of tree.
 use Rattle.std.proofs.Common.{◌≡◌, ℕ, Bool, List, Option, Some, None, refl, ap, ◌∙◌, sym, map, option_map}
+use Rattle.mo_syntax.specs.declared.name.Name.{Name}
 use Rattle.mo_syntax.specs.declared.types.Sharing.{Sharing}
 use Rattle.mo_syntax.specs.declared.types.TypeExpression.{TypeExpression, TypeExpression-F, roll-TypeExpression, fold-roll-TypeExpression, rec-roll-TypeExpression, map-TypeExpression}
 use Rattle.mo_syntax.specs.declared.types.TypeExpression.TheVariants as e
@@ -26,7 +27,7 @@ pub tokens_Async : (x0 : TypeExpression) → type_tokens (e.Async x0) ≡ type_s
 unfolding type_tokens type_field_tokens type_item_tokens type_method_tokens type_tag_tokens
 tokens_Async x0 = ap type_tokens (sym (e.rolls-Async x0)) ∙ fold-roll-TypeExpression Writing Writing Writing Writing Writing type_step type_field_step type_item_step type_method_step type_tag_step (F.Async x0)
 
-pub tokens_Named : (x0 : List ℕ) (x1 : Option (List TypeExpression)) → type_tokens (e.Named x0 x1) ≡ type_step (F.Named x0 (option_map (map type_tokens) x1))
+pub tokens_Named : (x0 : Name) (x1 : Option (List TypeExpression)) → type_tokens (e.Named x0 x1) ≡ type_step (F.Named x0 (option_map (map type_tokens) x1))
 unfolding type_tokens type_field_tokens type_item_tokens type_method_tokens type_tag_tokens
 tokens_Named x0 None = ap type_tokens (sym (e.rolls-Named x0 None)) ∙ fold-roll-TypeExpression Writing Writing Writing Writing Writing type_step type_field_step type_item_step type_method_step type_tag_step (F.Named x0 None)
 tokens_Named x0 (Some x1) = ap type_tokens (sym (e.rolls-Named x0 (Some x1))) ∙ fold-roll-TypeExpression Writing Writing Writing Writing Writing type_step type_field_step type_item_step type_method_step type_tag_step (F.Named x0 (Some x1))
@@ -55,19 +56,19 @@ pub tokens_Actor : (x0 : List TypeMethod) (x1 : Bool) → type_tokens (e.Actor x
 unfolding type_tokens type_field_tokens type_item_tokens type_method_tokens type_tag_tokens
 tokens_Actor x0 x1 = ap type_tokens (sym (e.rolls-Actor x0 x1)) ∙ fold-roll-TypeExpression Writing Writing Writing Writing Writing type_step type_field_step type_item_step type_method_step type_tag_step (F.Actor x0 x1)
 
-pub tokens_TypeField : (mutable : Bool) (name : List ℕ) (annotation : TypeExpression) → type_field_tokens (roll-TypeField (record { mutable = mutable; name = name; annotation = annotation })) ≡ type_field_step (record { mutable = mutable; name = name; annotation = (type_tokens annotation) })
+pub tokens_TypeField : (mutable : Bool) (name : Name) (annotation : TypeExpression) → type_field_tokens (roll-TypeField (record { mutable = mutable; name = name; annotation = annotation })) ≡ type_field_step (record { mutable = mutable; name = name; annotation = (type_tokens annotation) })
 unfolding type_tokens type_field_tokens type_item_tokens type_method_tokens type_tag_tokens
 tokens_TypeField mutable name annotation = fold-roll-TypeField Writing Writing Writing Writing Writing type_step type_field_step type_item_step type_method_step type_tag_step (record { mutable = mutable; name = name; annotation = annotation })
 
-pub tokens_TypeItem : (name : Option (List ℕ)) (annotation : TypeExpression) → type_item_tokens (roll-TypeItem (record { name = name; annotation = annotation })) ≡ type_item_step (record { name = name; annotation = (type_tokens annotation) })
+pub tokens_TypeItem : (name : Option Name) (annotation : TypeExpression) → type_item_tokens (roll-TypeItem (record { name = name; annotation = annotation })) ≡ type_item_step (record { name = name; annotation = (type_tokens annotation) })
 unfolding type_tokens type_field_tokens type_item_tokens type_method_tokens type_tag_tokens
 tokens_TypeItem name annotation = fold-roll-TypeItem Writing Writing Writing Writing Writing type_step type_field_step type_item_step type_method_step type_tag_step (record { name = name; annotation = annotation })
 
-pub tokens_TypeMethod : (name : List ℕ) (annotation : TypeExpression) → type_method_tokens (roll-TypeMethod (record { name = name; annotation = annotation })) ≡ type_method_step (record { name = name; annotation = (type_tokens annotation) })
+pub tokens_TypeMethod : (name : Name) (annotation : TypeExpression) → type_method_tokens (roll-TypeMethod (record { name = name; annotation = annotation })) ≡ type_method_step (record { name = name; annotation = (type_tokens annotation) })
 unfolding type_tokens type_field_tokens type_item_tokens type_method_tokens type_tag_tokens
 tokens_TypeMethod name annotation = fold-roll-TypeMethod Writing Writing Writing Writing Writing type_step type_field_step type_item_step type_method_step type_tag_step (record { name = name; annotation = annotation })
 
-pub tokens_TypeTag : (name : List ℕ) (payload : Option TypeExpression) → type_tag_tokens (roll-TypeTag (record { name = name; payload = payload })) ≡ type_tag_step (record { name = name; payload = (option_map type_tokens payload) })
+pub tokens_TypeTag : (name : Name) (payload : Option TypeExpression) → type_tag_tokens (roll-TypeTag (record { name = name; payload = payload })) ≡ type_tag_step (record { name = name; payload = (option_map type_tokens payload) })
 unfolding type_tokens type_field_tokens type_item_tokens type_method_tokens type_tag_tokens
 tokens_TypeTag name None = fold-roll-TypeTag Writing Writing Writing Writing Writing type_step type_field_step type_item_step type_method_step type_tag_step (record { name = name; payload = None })
 tokens_TypeTag name (Some payload) = fold-roll-TypeTag Writing Writing Writing Writing Writing type_step type_field_step type_item_step type_method_step type_tag_step (record { name = name; payload = (Some payload) })
@@ -116,7 +117,7 @@ abbrev TypeTagSteps : (A B C D E : Type 0) (v0 : A → TypeExpression) (v1 : B �
 TypeTagSteps A B C D E v0 v1 v2 v3 v4 q0 q1 q2 q3 q4 x =
     type_tag_rule A B C D E (λ p. q0 (v0 p)) (λ p. q1 (v1 p)) (λ p. q2 (v2 p)) (λ p. q3 (v3 p)) (λ p. q4 (v4 p)) x ≡ type_tag_rule TypeExpression TypeField TypeItem TypeMethod TypeTag q0 q1 q2 q3 q4 (map-TypeTag A B C D E TypeExpression TypeField TypeItem TypeMethod TypeTag v0 v1 v2 v3 v4 x)
 
-TypeTag_cases : (A B C D E : Type 0) (v0 : A → TypeExpression) (v1 : B → TypeField) (v2 : C → TypeItem) (v3 : D → TypeMethod) (v4 : E → TypeTag) (q0 : TypeExpression → ℕ → Type 0) (q1 : TypeField → Type 0) (q2 : TypeItem → Type 0) (q3 : TypeMethod → Type 0) (q4 : TypeTag → Type 0) (name_ : List ℕ) (payload_ : Option A) → TypeTagSteps A B C D E v0 v1 v2 v3 v4 q0 q1 q2 q3 q4 (record { name = name_; payload = payload_ })
+TypeTag_cases : (A B C D E : Type 0) (v0 : A → TypeExpression) (v1 : B → TypeField) (v2 : C → TypeItem) (v3 : D → TypeMethod) (v4 : E → TypeTag) (q0 : TypeExpression → ℕ → Type 0) (q1 : TypeField → Type 0) (q2 : TypeItem → Type 0) (q3 : TypeMethod → Type 0) (q4 : TypeTag → Type 0) (name_ : Name) (payload_ : Option A) → TypeTagSteps A B C D E v0 v1 v2 v3 v4 q0 q1 q2 q3 q4 (record { name = name_; payload = payload_ })
 TypeTag_cases A B C D E v0 v1 v2 v3 v4 q0 q1 q2 q3 q4 name_ None = refl
 TypeTag_cases A B C D E v0 v1 v2 v3 v4 q0 q1 q2 q3 q4 name_ (Some y) = refl
 
@@ -137,7 +138,7 @@ rule_Optional x0 = ap IsType (sym (e.rolls-Optional x0)) ∙ rule_TypeExpression
 pub rule_Async : (x0 : TypeExpression) → IsType (e.Async x0) ≡ type_rule TypeExpression TypeField TypeItem TypeMethod TypeTag IsType IsTypeField IsTypeItem IsTypeMethod IsTypeTag (F.Async x0)
 rule_Async x0 = ap IsType (sym (e.rolls-Async x0)) ∙ rule_TypeExpression (F.Async x0)
 
-pub rule_Named : (x0 : List ℕ) (x1 : Option (List TypeExpression)) → IsType (e.Named x0 x1) ≡ type_rule TypeExpression TypeField TypeItem TypeMethod TypeTag IsType IsTypeField IsTypeItem IsTypeMethod IsTypeTag (F.Named x0 x1)
+pub rule_Named : (x0 : Name) (x1 : Option (List TypeExpression)) → IsType (e.Named x0 x1) ≡ type_rule TypeExpression TypeField TypeItem TypeMethod TypeTag IsType IsTypeField IsTypeItem IsTypeMethod IsTypeTag (F.Named x0 x1)
 rule_Named x0 x1 = ap IsType (sym (e.rolls-Named x0 x1)) ∙ rule_TypeExpression (F.Named x0 x1)
 
 pub rule_Parenthesized : (x0 : List TypeItem) → IsType (e.Parenthesized x0) ≡ type_rule TypeExpression TypeField TypeItem TypeMethod TypeTag IsType IsTypeField IsTypeItem IsTypeMethod IsTypeTag (F.Parenthesized x0)

@@ -6,7 +6,7 @@ use Rattle.std.specs.Char.{encode_utf8, IsScalar, digit_value}
 use Rattle.std.specs.Str.{IsUtf8, bytes_eq}
 use Rattle.mo_syntax.specs.Characters.{is_blank, is_name_start, is_name_byte, is_digit, begins, goes_on, is_numeral, value_of}
 use Rattle.mo_syntax.specs.Words.{word_of, mark_text}
-use Rattle.mo_syntax.specs.Tokens.{before_of}
+use Rattle.mo_syntax.specs.Tokens.{before_of, placed, nowhere}
 use Rattle.mo_syntax.specs.declared.mark.Mark.{Mark}
 use Rattle.mo_syntax.specs.declared.mark.Mark.TheVariants as m
 use Rattle.mo_syntax.specs.declared.before.Before.{Before}
@@ -147,14 +147,14 @@ begins_comment _ = false
 
 -- A token of this kind and text stands after `before` and in front of the rest. It is the longest that is one.
 abbrev pub IsToken : Before → TokenKind → List ℕ → List ℕ → Type 0
-IsToken before (t.Identifier name) text rest = (text ≡ name) × (is_identifier name ≡ true) × (begins is_name_byte rest ≡ false)
+IsToken before (t.Identifier name) text rest = (name ≡ record { bytes = text; place = nowhere }) × (is_identifier text ≡ true) × (begins is_name_byte rest ≡ false)
 IsToken before (t.Reserved word) text rest = (word_of text ≡ Some word) × (is_name text ≡ true) × (begins is_name_byte rest ≡ false)
 IsToken before (t.Number n) text rest = (IsDecimal text n rest ⊎ IsHexadecimal text n rest) × (n < 2 ^ 64)
 IsToken before (t.Character c) text rest = IsCharacter text c
 IsToken before (t.Text bytes) text rest = IsText text bytes
 IsToken before (t.Mark mark) text rest = (text ≡ mark_text mark) × IsLongestMark mark rest × (begins_comment (text ++ rest) ≡ false) × Fits before mark rest
 
--- A text is made of pieces: blanks, comments and tokens.
+-- A text is made of pieces: blanks, comments and tokens. A name has no place before it is known where its piece stands.
 pub data Piece : Type 0 where
   blank : ℕ → Piece
   comment : List ℕ → Piece
@@ -187,9 +187,9 @@ AllStand before (piece ∷ pieces) rest = Stands before piece (text_of pieces ++
 abbrev pub tokens_at : ℕ → Piece → List Token
 tokens_at place (blank b) = []
 tokens_at place (comment text) = []
-tokens_at place (token kind text) = record { kind = kind; start = place; «end» = place + length text } ∷ []
+tokens_at place (token kind text) = record { kind = placed (record { start = place; «end» = place + length text }) kind; start = place; «end» = place + length text } ∷ []
 
--- the tokens among the pieces, with their places, where the first piece begins at the place
+-- the tokens among the pieces, with their places and those of their names, where the first piece begins at the place
 abbrev pub tokens_from : ℕ → List Piece → List Token
 tokens_from place [] = []
 tokens_from place (piece ∷ pieces) = tokens_at place piece ++ tokens_from (place + length (piece_text piece)) pieces

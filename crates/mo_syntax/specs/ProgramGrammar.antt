@@ -7,8 +7,9 @@
 --             | ["private"] dec | ["private"] "stable" "var" id [":" type] "=" exp
 --     shfunc  = [("shared" ["query"] | "query") [ctx]] "func" id params ":" type body
 --     ctx     = "(" pat ")" | "{" pfield;* "}"
-use Rattle.std.specs.Prelude.{◌≡◌, ℕ, Bool, true, false, List, [], ◌∷◌, ◌++◌, Option, Some, None, option_map, map}
+use Rattle.std.specs.Prelude.{◌≡◌, Bool, true, false, List, [], ◌∷◌, ◌++◌, Option, Some, None, option_map, map}
 use Rattle.std.specs.List.{flat_map}
+use Rattle.mo_syntax.specs.declared.name.Name.{Name}
 use Rattle.mo_syntax.specs.declared.token.TokenKind.{TokenKind}
 use Rattle.mo_syntax.specs.declared.token.TokenKind.TheVariants as t
 use Rattle.mo_syntax.specs.declared.word.Word.TheVariants as w
@@ -61,7 +62,7 @@ actor_field_tokens (field.Stable private x kind a) = marked private (t.Reserved 
     ++ (t.Reserved w.Stable ∷ t.Reserved w.Var ∷ t.Identifier x ∷ annotation (option_map type_tokens kind) ++ t.Mark m.EqualSign ∷ expression_tokens a)
 
 -- `[id]`
-abbrev pub name_tokens : Option (List ℕ) → Writing
+abbrev pub name_tokens : Option Name → Writing
 name_tokens None = []
 name_tokens (Some x) = t.Identifier x ∷ []
 

@@ -1,5 +1,6 @@
--- What a token leaves directly before the next place.
+-- Where tokens stand, and what each leaves directly before the next place.
 use Rattle.std.specs.Prelude.{ℕ, ◌<◌, ◌≤◌, List, [], ◌∷◌}
+use Rattle.mo_syntax.specs.declared.place.Place.{Place}
 use Rattle.mo_syntax.specs.declared.token.Token.{Token}
 use Rattle.mo_syntax.specs.declared.word.Word.TheVariants as w
 use Rattle.mo_syntax.specs.declared.mark.Mark.TheVariants as m
@@ -32,6 +33,19 @@ before_of (t.Number n) = b.Operand
 before_of (t.Character c) = b.Operand
 before_of (t.Text bytes) = b.Operand
 before_of (t.Mark mark) = before_of_mark mark
+
+-- the kind of a token that stands there: a name has its place
+abbrev pub placed : Place → TokenKind → TokenKind
+placed place (t.Identifier name) = t.Identifier (record { bytes = name.bytes; place = place })
+placed place kind = kind
+
+-- of a name whose place is not said
+abbrev pub nowhere : Place
+nowhere = record { start = 0; «end» = 0 }
+
+-- what a token is, wherever it stands
+abbrev pub plain : TokenKind → TokenKind
+plain = placed nowhere
 
 -- Each token has some bytes, and they stand behind those of the one before it: from the first place on, and up to the last.
 abbrev pub AreInOrder : ℕ → ℕ → List Token → Type 0

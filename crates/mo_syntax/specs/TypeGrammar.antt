@@ -9,6 +9,7 @@
 --
 -- `{ }` is an object.
 use Rattle.std.specs.Prelude.{◌≡◌, ℕ, ◌≤◌, List, [], ◌∷◌, ◌++◌, Option, Some, None, option_map, map}
+use Rattle.mo_syntax.specs.declared.name.Name.{Name}
 use Rattle.mo_syntax.specs.declared.token.TokenKind.TheVariants as t
 use Rattle.mo_syntax.specs.declared.word.Word.TheVariants as w
 use Rattle.mo_syntax.specs.declared.mark.Mark.TheVariants as m
@@ -47,7 +48,7 @@ abbrev pub type_field_step : F.TypeField-F Writing Writing Writing Writing Writi
 type_field_step x = marked x.mutable (t.Reserved w.Var) ++ t.Identifier x.name ∷ t.Mark m.Colon ∷ x.annotation
 
 -- `[id ":"]`
-abbrev pub item_name : Option (List ℕ) → Writing
+abbrev pub item_name : Option Name → Writing
 item_name None = []
 item_name (Some x) = t.Identifier x ∷ t.Mark m.Colon ∷ []
 

@@ -1,6 +1,7 @@
 -- How the parts of a tree are written one after another.
-use Rattle.std.specs.Prelude.{ℕ, Bool, true, false, List, [], ◌∷◌, ◌++◌, Option, Some, None}
+use Rattle.std.specs.Prelude.{Bool, true, false, List, [], ◌∷◌, ◌++◌, Option, Some, None}
 use Rattle.std.specs.List.{flat_map}
+use Rattle.mo_syntax.specs.declared.name.Name.{Name}
 use Rattle.mo_syntax.specs.declared.token.TokenKind.{TokenKind}
 use Rattle.mo_syntax.specs.declared.token.TokenKind.TheVariants as t
 use Rattle.mo_syntax.specs.declared.word.Word.TheVariants as w
@@ -61,7 +62,7 @@ angles None = []
 angles (Some xs) = inside (t.Mark m.AngleOpen) (commas xs) (t.Mark m.AngleClose)
 
 -- a tag is the mark `#` and an identifier
-abbrev pub tag : List ℕ → Writing
+abbrev pub tag : Name → Writing
 tag name = t.Mark m.Tag ∷ t.Identifier name ∷ []
 
 -- a number, character, text, `true`, `false` or `null`

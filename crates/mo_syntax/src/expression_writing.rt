@@ -89,10 +89,10 @@ fn put_each_name(alloc: Global, names: &[Name], out: &mut Kinds) -> Result<(), M
     let [first, others @ ..] = names else {
         return Ok(());
     };
-    put_name(alloc, out, first.as_slice())?;
+    put_name(alloc, out, first)?;
     for one in others {
         put_mark(out, Mark::Comma)?;
-        put_name(alloc, out, one.as_slice())?;
+        put_name(alloc, out, one)?;
     }
     Ok(())
 }
@@ -157,7 +157,7 @@ impl<F: Fn(Global, usize, &[Part<'_>], &mut Kinds) -> Result<(), Memory>> Writer
             Part::Mark(mark) => put_mark(out, *mark),
             Part::Word(word) => put_word(out, *word),
             Part::WordIf(stands, word) => put_word_if(out, *stands, *word),
-            Part::Name(name) => put_name(self.alloc, out, name.as_slice()),
+            Part::Name(name) => put_name(self.alloc, out, name),
             Part::Number(n) => out.push(TokenKind::Number(*n)),
             Part::Text(text) => put_text(self.alloc, out, text.as_slice()),
             Part::Literal(literal) => put_literal(self.alloc, literal, out),

@@ -1,15 +1,16 @@
-//! Lists of tokens without places.
+//! Lists of tokens. Names alone have their places.
 ghost use Rattle.std.specs.Prelude.{◌≡◌, ◌++◌, ◌∷◌, [], OnOk};
 ghost use Rattle.mo_syntax.specs.Writing.{marked};
 ghost use Rattle.mo_syntax.specs.declared.token.TokenKind.{TokenKind};
 
 use crate::mark::Mark;
+use crate::name::Name;
 use crate::token::TokenKind;
 use crate::word::Word;
 use mo_num::{Bytes, Memory, Sequence};
 use std::alloc::Global;
 
-/// A list of tokens without their places.
+/// A list of tokens without their places, but for those of names.
 pub type Kinds = Sequence<TokenKind>;
 
 pub(crate) fn put_mark(out: &mut Kinds, mark: Mark) -> Result<(), Memory>
@@ -24,10 +25,10 @@ pub(crate) fn put_word(out: &mut Kinds, word: Word) -> Result<(), Memory>
     out.push(TokenKind::Reserved(word))
 }
 
-pub(crate) fn put_name(alloc: Global, out: &mut Kinds, name: &[u8]) -> Result<(), Memory>
+pub(crate) fn put_name(alloc: Global, out: &mut Kinds, name: &Name) -> Result<(), Memory>
     ensures { OnOk result (out.new ≡ out.old ++ TokenKind.Identifier name.now ∷ []) }
 {
-    out.push(TokenKind::Identifier(Bytes::from_slice(alloc, name)?))
+    out.push(TokenKind::Identifier(name.copy(alloc)?))
 }
 
 pub(crate) fn put_text(alloc: Global, out: &mut Kinds, text: &[u8]) -> Result<(), Memory>

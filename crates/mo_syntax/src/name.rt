@@ -5,27 +5,18 @@ ghost use Rattle.std.specs.Str.{bytes_eq};
 use crate::place::Place;
 use mo_num::{Bytes, Memory};
 use std::alloc::Global;
-use std::marker::Model;
 
-/// A name at a place of the source, which contracts see as its bytes.
+/// A name, as its bytes, and where it stands in the source.
 #[derive(Drop)]
 pub struct Name {
-    bytes: Bytes,
-    place: Place,
-}
-
-impl Model for Name {
-    ghost use Rattle.std.specs.Prelude.{List, ℕ};
-
-    ghost Value = { List ℕ };
-
-    ghost view = { λ n. n.bytes };
+    pub bytes: Bytes,
+    pub place: Place,
 }
 
 impl Name {
     /// The name with these bytes.
     pub fn new(alloc: Global, place: Place, bytes: &[u8]) -> Result<Name, Memory>
-        ensures { IfOk result (λ made. made ≡ bytes.now) }
+        ensures { IfOk result (λ made. made ≡ record { bytes = bytes.now; place = place }) }
     {
         Ok(Name {
             bytes: Bytes::from_slice(alloc, bytes)?,
@@ -33,21 +24,30 @@ impl Name {
         })
     }
 
+    /// The name once more, at its place.
+    pub fn copy(&self, alloc: Global) -> Result<Name, Memory>
+        ensures { IfOk result (λ made. made ≡ self.now) }
+    {
+        Name::new(alloc, self.place, self.bytes.as_slice())
+    }
+
     /// Its bytes.
     pub fn as_slice(&self) -> &[u8]
-        ensures { result.now ≡ self.now }
+        ensures { result.now ≡ self.now.bytes }
     {
         self.bytes.as_slice()
     }
 
     /// Where it stands.
-    pub fn place(&self) -> Place {
+    pub fn place(&self) -> Place
+        ensures { result ≡ self.now.place }
+    {
         self.place
     }
 
-    /// Whether it is the other name too.
+    /// Whether it is the other name too, be it at another place.
     pub fn same(&self, other: &Name) -> bool
-        ensures { result ≡ bytes_eq self.now other.now }
+        ensures { result ≡ bytes_eq self.now.bytes other.now.bytes }
     {
         self.bytes.as_slice() == other.bytes.as_slice()
     }

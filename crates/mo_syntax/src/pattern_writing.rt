@@ -51,13 +51,13 @@ pub(crate) fn put_pattern(alloc: Global, p: &Pattern, out: &mut Kinds) -> Result
         }
         Pattern::Tagged(name, payload) => {
             put_mark(out, Mark::Tag)?;
-            put_name(alloc, out, name.as_slice())?;
+            put_name(alloc, out, name)?;
             match payload {
                 None => Ok(()),
                 Some(p) => put_pattern(alloc, p.get(), out),
             }
         }
-        Pattern::Variable(name) => put_name(alloc, out, name.as_slice()),
+        Pattern::Variable(name) => put_name(alloc, out, name),
         Pattern::Wildcard => put_mark(out, Mark::Underscore),
         Pattern::Constant(minus, literal) => {
             put_mark_if(out, *minus, Mark::Minus)?;
@@ -128,7 +128,7 @@ fn put_each_pattern_field(
 fn put_pattern_field(alloc: Global, field: &PatternField, out: &mut Kinds) -> Result<(), Memory>
     ensures { OnOk result (out.new ≡ out.old ++ pattern_field_tokens field.now) }
 {
-    put_name(alloc, out, field.name.as_slice())?;
+    put_name(alloc, out, &field.name)?;
     match &field.pattern {
         None => Ok(()),
         Some(p) => {
@@ -151,6 +151,6 @@ pub(crate) fn put_parameters(
             put_patterns(alloc, patterns.as_slice(), out)?;
             put_mark(out, Mark::ParenClose)
         }
-        Parameters::Single(name) => put_name(alloc, out, name.as_slice()),
+        Parameters::Single(name) => put_name(alloc, out, name),
     }
 }

@@ -1,9 +1,11 @@
 //! Tokens.
 ghost use Rattle.std.specs.Prelude.{◌≡◌};
-ghost use Rattle.mo_syntax.specs.Tokens.{before_of};
+ghost use Rattle.mo_syntax.specs.Tokens.{before_of, placed};
 
 use crate::before::Before;
 use crate::mark::Mark;
+use crate::name::Name;
+use crate::place::Place;
 use crate::word::Word;
 use mo_num::{Bytes, Sequence};
 
@@ -11,7 +13,7 @@ use mo_num::{Bytes, Sequence};
 #[derive(Drop)]
 pub enum TokenKind {
     /// A name that is no reserved word: ASCII letters, digits and `_`.
-    Identifier(Bytes),
+    Identifier(Name),
     /// A reserved word. `true`, `false` and `null` are literals.
     Reserved(Word),
     /// A decimal or hexadecimal number, below 2^64.
@@ -50,6 +52,19 @@ impl TokenKind {
                 Mark::ParenClose | Mark::BracketClose | Mark::BraceClose | Mark::AngleClose,
             ) => Before::Operand,
             TokenKind::Reserved(_) | TokenKind::Mark(_) => Before::Other,
+        }
+    }
+
+    /// The kind of a token that stands there: a name has its place.
+    pub fn placed(self, place: Place) -> TokenKind
+        ensures { result ≡ placed place self }
+    {
+        match self {
+            TokenKind::Identifier(name) => TokenKind::Identifier(Name {
+                bytes: name.bytes,
+                place,
+            }),
+            kind => kind,
         }
     }
 }

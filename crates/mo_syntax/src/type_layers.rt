@@ -42,7 +42,7 @@ fn put_tag_name(alloc: Global, name: &Name, out: &mut Kinds) -> Result<(), Memor
     ensures { OnOk result (out.new ≡ out.old ++ TokenKind.Mark Mark.Tag ∷ TokenKind.Identifier name.now ∷ []) }
 {
     put_mark(out, Mark::Tag)?;
-    put_name(alloc, out, name.as_slice())
+    put_name(alloc, out, name)
 }
 
 // A last `;` or none, and `}`.
@@ -83,11 +83,7 @@ impl<F: Fn(Global, usize, &TypeExpression, &mut Kinds) -> Result<(), Memory>> Ty
             ),
             TypeExpression::Optional(a) => self.put_optional(a.get(), out),
             TypeExpression::Async(a) => self.put_async(a.get(), out),
-            TypeExpression::Named(name, arguments) => self.put_named(
-                name.as_slice(),
-                arguments,
-                out,
-            ),
+            TypeExpression::Named(name, arguments) => self.put_named(name, arguments, out),
             TypeExpression::Parenthesized(items) => self.put_parenthesized(items.as_slice(), out),
             TypeExpression::Array(mutable, a) => self.put_array(*mutable, a.get(), out),
             TypeExpression::Object(word, fields, last) => self.put_object(
@@ -136,7 +132,7 @@ impl<F: Fn(Global, usize, &TypeExpression, &mut Kinds) -> Result<(), Memory>> Ty
 
     fn put_named(
         &self,
-        name: &[u8],
+        name: &Name,
         arguments: &Option<Items<Node<TypeExpression>>>,
         out: &mut Kinds,
     ) -> Result<(), Memory>
@@ -286,7 +282,7 @@ impl<F: Fn(Global, usize, &TypeExpression, &mut Kinds) -> Result<(), Memory>> Ty
         requires { Writes self.now.depth (F.pre self.now.types) (F.post self.now.types) }
         ensures { OnOk result (out.new ≡ out.old ++ TokenKind.Identifier name.now ∷ TokenKind.Mark Mark.Colon ∷ type_tokens a.now) }
     {
-        put_name(self.alloc, out, name.as_slice())?;
+        put_name(self.alloc, out, name)?;
         put_mark(out, Mark::Colon)?;
         self.put(a.get(), out)
     }

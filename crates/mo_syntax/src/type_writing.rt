@@ -64,7 +64,7 @@ fn put_type_parameter(
 ) -> Result<(), Memory>
     ensures { OnOk result (out.new ≡ out.old ++ type_parameter_tokens parameter.now) }
 {
-    put_name(alloc, out, parameter.name.as_slice())?;
+    put_name(alloc, out, &parameter.name)?;
     match &parameter.bound {
         None => Ok(()),
         Some(a) => {

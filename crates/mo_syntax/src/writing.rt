@@ -55,7 +55,7 @@ fn put_import(alloc: Global, import: &Import, out: &mut Kinds) -> Result<(), Mem
     ensures { OnOk result (out.new ≡ out.old ++ import_tokens import.now) }
 {
     put_word(out, Word::Import)?;
-    put_name(alloc, out, import.name.as_slice())?;
+    put_name(alloc, out, &import.name)?;
     put_mark_if(out, import.equal_sign, Mark::EqualSign)?;
     put_path(alloc, import.path.get().as_slice(), out)
 }
@@ -82,7 +82,7 @@ fn put_optional_name(alloc: Global, name: &Option<Name>, out: &mut Kinds) -> Res
 {
     match name {
         None => Ok(()),
-        Some(name) => put_name(alloc, out, name.as_slice()),
+        Some(name) => put_name(alloc, out, name),
     }
 }
 
@@ -123,7 +123,7 @@ fn put_actor_field(alloc: Global, field: &ActorField, out: &mut Kinds) -> Result
             put_shared_function(alloc, function.get(), out)
         }
         ActorField::System(name, equal_sign, body) => {
-            put_system(alloc, name.as_slice(), *equal_sign, out)?;
+            put_system(alloc, name, *equal_sign, out)?;
             put_expression(alloc, body.get(), out)
         }
         ActorField::Declared(private, declaration) => {
@@ -132,7 +132,7 @@ fn put_actor_field(alloc: Global, field: &ActorField, out: &mut Kinds) -> Result
         }
         ActorField::Stable(private, name, kind, a) => {
             put_word_if(out, *private, Word::Private)?;
-            put_stable(alloc, name.as_slice(), out)?;
+            put_stable(alloc, name, out)?;
             put_annotation(alloc, kind, out)?;
             put_mark(out, Mark::EqualSign)?;
             put_expression(alloc, a.get(), out)
@@ -141,7 +141,7 @@ fn put_actor_field(alloc: Global, field: &ActorField, out: &mut Kinds) -> Result
 }
 
 // `system func`, a name and `( )`, and the `=` before a body.
-fn put_system(alloc: Global, name: &[u8], equal_sign: bool, out: &mut Kinds) -> Result<(), Memory>
+fn put_system(alloc: Global, name: &Name, equal_sign: bool, out: &mut Kinds) -> Result<(), Memory>
     ensures { OnOk result (out.new ≡ out.old ++ TokenKind.Reserved Word.System ∷ TokenKind.Reserved Word.Func ∷ TokenKind.Identifier name.now ∷ signature (parens []) None equal_sign) }
 {
     put_word(out, Word::System)?;
@@ -159,7 +159,7 @@ fn put_no_parameters(equal_sign: bool, out: &mut Kinds) -> Result<(), Memory>
 }
 
 // `stable var` and a name.
-fn put_stable(alloc: Global, name: &[u8], out: &mut Kinds) -> Result<(), Memory>
+fn put_stable(alloc: Global, name: &Name, out: &mut Kinds) -> Result<(), Memory>
     ensures { OnOk result (out.new ≡ out.old ++ TokenKind.Reserved Word.Stable ∷ TokenKind.Reserved Word.Var ∷ TokenKind.Identifier name.now ∷ []) }
 {
     put_word(out, Word::Stable)?;
@@ -184,7 +184,7 @@ fn put_heading(alloc: Global, function: &SharedFunction, out: &mut Kinds) -> Res
     ensures { OnOk result (out.new ≡ out.old ++ TokenKind.Reserved Word.Func ∷ TokenKind.Identifier function.now.name ∷ signature (parameters_tokens function.now.parameters) (Some (type_tokens function.now.result)) function.now.equal_sign) }
 {
     put_word(out, Word::Func)?;
-    put_name(alloc, out, function.name.as_slice())?;
+    put_name(alloc, out, &function.name)?;
     put_parameters(alloc, &function.parameters, out)?;
     put_result(alloc, function, out)
 }

@@ -2,7 +2,7 @@
 use Rattle.std.proofs.Common.{◌≡◌, ℕ, suc, ◌+◌, ◌<◌, ◌≤◌, take, drop, get_or, add-one, drop-cons, Bool, true, false, List, [], ◌∷◌, ◌++◌, length, map, refl, sym, ap, ◌∙◌, subst, inl, inr, append_assoc}
 use Rattle.std.specs.Prelude.{codes}
 use Rattle.std.proofs.lemmas.Str.{IsUtf8-from_ascii}
-use Rattle.std.proofs.lemmas.List.{append-nil, take_more, take_all, drop_all}
+use Rattle.std.proofs.lemmas.List.{append-nil, map-append, take_more, take_all, drop_all}
 use Rattle.mo_syntax.specs.Lexed.{begins_identifier, IsComment, Piece, blank, comment, token, piece_text, Stands, before_next, text_of, AllStand, tokens_from}
 use Rattle.mo_syntax.specs.declared.mark.Mark.{Mark}
 use Rattle.mo_syntax.specs.declared.mark.Mark.TheVariants as m
@@ -13,7 +13,8 @@ use Rattle.mo_syntax.specs.declared.word.Word.TheVariants as w
 use Rattle.mo_syntax.specs.declared.token.Token.{Token}
 use Rattle.mo_syntax.specs.declared.token.TokenKind.{TokenKind}
 use Rattle.mo_syntax.specs.declared.token.TokenKind.TheVariants as t
-use Rattle.mo_syntax.specs.Tokens.{before_of, before_of_word, before_of_mark}
+use Rattle.mo_syntax.specs.declared.place.Place.{Place}
+use Rattle.mo_syntax.specs.Tokens.{before_of, before_of_word, before_of_mark, placed, plain, nowhere}
 use Rattle.mo_lexer.specs.Faults.{before_after}
 use Rattle.mo_unparse.specs.declared.last.Last.{Last}
 use Rattle.mo_unparse.specs.declared.last.Last.TheVariants as last
@@ -51,11 +52,22 @@ kinds_append (blank b ∷ ps) qs = kinds_append ps qs
 kinds_append (comment text ∷ ps) qs = kinds_append ps qs
 kinds_append (token kind text ∷ ps) qs = ap (λ l. kind ∷ l) (kinds_append ps qs)
 
-pub kinds_listed : (place : ℕ) (ps : List Piece) → map (λ (x : Token). x.kind) (tokens_from place ps) ≡ kinds_of ps
+-- a name that is placed anew is the same but for its place
+plain_placed : (place : Place) (kind : TokenKind) → plain (placed place kind) ≡ plain kind
+plain_placed place (t.Identifier name) = refl
+plain_placed place (t.Reserved word) = refl
+plain_placed place (t.Number n) = refl
+plain_placed place (t.Character c) = refl
+plain_placed place (t.Text bytes) = refl
+plain_placed place (t.Mark mark) = refl
+
+pub kinds_listed : (place : ℕ) (ps : List Piece) → map (λ (x : Token). plain x.kind) (tokens_from place ps) ≡ map plain (kinds_of ps)
 kinds_listed place [] = refl
 kinds_listed place (blank b ∷ ps) = kinds_listed (place + 1) ps
 kinds_listed place (comment text ∷ ps) = kinds_listed (place + length text) ps
-kinds_listed place (token kind text ∷ ps) = ap (λ l. kind ∷ l) (kinds_listed (place + length text) ps)
+kinds_listed place (token kind text ∷ ps) =
+    ap (λ l. plain (placed (record { start = place; «end» = place + length text }) kind) ∷ l) (kinds_listed (place + length text) ps)
+    ∙ ap (λ k. k ∷ map plain (kinds_of ps)) (plain_placed (record { start = place; «end» = place + length text }) kind)
 
 -- ---- one more token
 
@@ -78,7 +90,7 @@ leaves_mark m.BraceClose = refl
 leaves_mark m.AngleClose = refl
 leaves_mark _ = tt
 
-leaves : (kind : TokenKind) → Leaves (last_of kind) (before_of kind)
+leaves : (kind : TokenKind) → Leaves (last_of kind) (before_of (plain kind))
 leaves (t.Identifier name) = refl
 leaves (t.Reserved word) = leaves_word word
 leaves (t.Number n) = refl
@@ -113,8 +125,9 @@ leads (t.Character c) kinds h = tt
 leads (t.Text bytes) kinds h = tt
 leads (t.Mark mark) kinds h = leads_mark mark kinds h
 
+-- the token's piece, whose name stands nowhere, and what is in front of it
 abbrev next : Last → Bool → TokenKind → List ℕ → List Piece
-next l angle kind text = gap l angle ++ token kind text ∷ []
+next l angle kind text = gap l angle ++ token (plain kind) text ∷ []
 
 -- the pieces of the next token stand where they are, and may follow
 record Fitting (l : Last) (before : Before) (pieces : List Piece) (rest : List ℕ) : Type 0 where
@@ -128,15 +141,15 @@ one_text : (text rest : List ℕ) → (text ++ []) ++ rest ≡ text ++ rest
 one_text text rest = ap (λ l. l ++ rest) (append-nil text)
 
 tagged : (before : Before) (kind : TokenKind) (kinds : List TokenKind) (text rest : List ℕ) → LeadsIdentifier (kind ∷ kinds) → IsOfLanguage kind → IsSpelling kind text → Follows (last_of kind) rest →
-    Fitting last.Tag before (token kind text ∷ []) rest
+    Fitting last.Tag before (token (plain kind) text ∷ []) rest
 tagged before (t.Identifier name) kinds text rest h is e f = record {
-  follow = ap begins_identifier (one_text text rest ∙ ap (λ l. l ++ rest) e) ∙ name_leads name rest is f;
+  follow = ap begins_identifier (one_text text rest ∙ ap (λ l. l ++ rest) e) ∙ name_leads name.bytes rest is f;
   stand = (token_stands before (t.Identifier name) text rest is e tt f, tt);
 }
 tagged before _ kinds text rest h is e f = absurd h
 
 spaced : (l : Last) (before : Before) (kind : TokenKind) (text rest : List ℕ) → ((r : List ℕ) → Follows l (32 ∷ r)) → is_angle kind ≡ false → IsOfLanguage kind → IsSpelling kind text → Follows (last_of kind) rest →
-    Fitting l before (blank 32 ∷ token kind text ∷ []) rest
+    Fitting l before (blank 32 ∷ token (plain kind) text ∷ []) rest
 spaced l before kind text rest blank_follows a is e f = record {
   follow = blank_follows ((text ++ []) ++ rest);
   stand = (refl, (token_stands beside.Blank kind text rest is e (suits_blank kind a) f, tt));
@@ -164,9 +177,9 @@ gap_low last.Other true = refl
 gap_low last.Other false = refl
 
 next_text : (l : Last) (angle : Bool) (kind : TokenKind) (text : List ℕ) → text_of (next l angle kind text) ≡ text_of (gap l angle) ++ text
-next_text l angle kind text = text_append (gap l angle) (token kind text ∷ []) ∙ ap (λ z. text_of (gap l angle) ++ z) (append-nil text)
+next_text l angle kind text = text_append (gap l angle) (token (plain kind) text ∷ []) ∙ ap (λ z. text_of (gap l angle) ++ z) (append-nil text)
 
-next_kinds : (l : Last) (angle : Bool) (kind : TokenKind) (text : List ℕ) → kinds_of (next l angle kind text) ≡ kind ∷ []
+next_kinds : (l : Last) (angle : Bool) (kind : TokenKind) (text : List ℕ) → kinds_of (next l angle kind text) ≡ plain kind ∷ []
 next_kinds last.Tag angle kind text = refl
 next_kinds last.Operand true kind text = refl
 next_kinds last.Operand false kind text = refl
@@ -179,7 +192,7 @@ pub record Going (done to_do : List TokenKind) (l : Last) (out : List ℕ) : Typ
   pub pieces : List Piece
   pub whole : out ≡ text_of pieces
   pub low : AreLow out
-  pub listed : kinds_of pieces ≡ done
+  pub listed : map plain (kinds_of pieces) ≡ map plain done
   pub stand : (rest : List ℕ) → Follows l rest → AllStand beside.Other pieces rest
   pub leave : Leaves l (before_after beside.Other pieces)
   pub able : AreWritable to_do
@@ -198,9 +211,12 @@ go_on done kind to_do l out new g a =
       pieces = g.pieces ++ more;
       whole = added ∙ ap (λ z. z ++ text_of more) g.whole ∙ sym (text_append g.pieces more);
       low = subst AreLow (sym a.added) (low_append out (text_of (gap l (is_angle kind)) ++ a.text) g.low (low_append (text_of (gap l (is_angle kind))) a.text (gap_low l (is_angle kind)) (token_low kind a.text g.able.0.0 a.spells)));
-      listed = kinds_append g.pieces more ∙ ap (λ z. z ++ kinds_of more) g.listed ∙ ap (λ z. done ++ z) (next_kinds l (is_angle kind) kind a.text);
+      listed =
+          ap (map plain) (kinds_append g.pieces more ∙ ap (λ z. kinds_of g.pieces ++ z) (next_kinds l (is_angle kind) kind a.text))
+          ∙ map-append plain (kinds_of g.pieces) (plain kind ∷ []) ∙ ap (λ z. z ++ plain (plain kind) ∷ []) g.listed ∙ ap (λ k. map plain done ++ k ∷ []) (plain_placed nowhere kind)
+          ∙ sym (map-append plain done (kind ∷ []));
       stand = λ rest f. let x = fit rest f in stand_append beside.Other g.pieces more rest (g.stand (text_of more ++ rest) x.follow) x.stand;
-      leave = subst (Leaves (last_of kind)) (sym (before_append beside.Other g.pieces more ∙ before_append here (gap l (is_angle kind)) (token kind a.text ∷ []))) (leaves kind);
+      leave = subst (Leaves (last_of kind)) (sym (before_append beside.Other g.pieces more ∙ before_append here (gap l (is_angle kind)) (token (plain kind) a.text ∷ []))) (leaves kind);
       able = (g.able.0.1, g.able.1.1);
       lead = leads kind to_do g.able.1.0;
     }
@@ -222,7 +238,7 @@ finish done l out new g e =
         stand = stand_append beside.Other g.pieces (blank 10 ∷ []) [] (g.stand (10 ∷ []) (line_follows l g.lead)) (refl, tt);
         listed = refl;
       };
-      kinds_are = kinds_listed 0 all ∙ kinds_append g.pieces (blank 10 ∷ []) ∙ append-nil (kinds_of g.pieces) ∙ g.listed;
+      kinds_are = kinds_listed 0 all ∙ ap (map plain) (kinds_append g.pieces (blank 10 ∷ []) ∙ append-nil (kinds_of g.pieces)) ∙ g.listed;
     }
 
 -- ---- the loop

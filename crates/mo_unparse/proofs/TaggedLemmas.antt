@@ -1,6 +1,7 @@
 -- Writings in which each mark `#` of a tag has its identifier behind it, whatever such writing follows.
-use Rattle.std.proofs.Common.{ℕ, Bool, true, false, List, [], ◌∷◌, ◌++◌, Option, Some, None, sym, subst, append_assoc, map, option_map}
+use Rattle.std.proofs.Common.{Bool, true, false, List, [], ◌∷◌, ◌++◌, Option, Some, None, sym, subst, append_assoc, map, option_map}
 use Rattle.std.specs.List.{flat_map}
+use Rattle.mo_syntax.specs.declared.name.Name.{Name}
 use Rattle.mo_syntax.specs.declared.mark.Mark.{Mark}
 use Rattle.mo_syntax.specs.declared.mark.Mark.TheVariants as m
 use Rattle.mo_syntax.specs.declared.token.TokenKind.{TokenKind}
@@ -37,7 +38,7 @@ none = record { keeps = λ ys h. h }
 pub one : (kind : TokenKind) (xs : Writing) → PlainKind kind → Closed xs → Closed (kind ∷ xs)
 one kind xs p c = record { keeps = λ ys h. (plain_kind kind (xs ++ ys) p, c.keeps ys h) }
 
-pub tagged : (name : List ℕ) (xs : Writing) → Closed xs → Closed (t.Mark m.Tag ∷ t.Identifier name ∷ xs)
+pub tagged : (name : Name) (xs : Writing) → Closed xs → Closed (t.Mark m.Tag ∷ t.Identifier name ∷ xs)
 tagged name xs c = record { keeps = λ ys h. (tt, (tt, c.keeps ys h)) }
 
 pub both : (xs ys : Writing) → Closed xs → Closed ys → Closed (xs ++ ys)

@@ -1,7 +1,8 @@
 -- In the writing of a program each mark `#` of a tag has its identifier behind it.
-use Rattle.std.proofs.Common.{ℕ, List, [], ◌∷◌, ◌++◌, Option, Some, None, subst, map, option_map}
+use Rattle.std.proofs.Common.{List, [], ◌∷◌, ◌++◌, Option, Some, None, subst, map, option_map}
 use Rattle.std.specs.List.{flat_map}
 use Rattle.std.proofs.lemmas.List.{append-nil}
+use Rattle.mo_syntax.specs.declared.name.Name.{Name}
 use Rattle.mo_syntax.specs.declared.word.Word.TheVariants as w
 use Rattle.mo_syntax.specs.declared.mark.Mark.TheVariants as m
 use Rattle.mo_syntax.specs.declared.token.TokenKind.TheVariants as t
@@ -55,7 +56,7 @@ of_actor_field (field.System x equal_sign body) = (one (t.Reserved w.System) (t.
 of_actor_field (field.Declared private x) = (both (marked private (t.Reserved w.Private)) (declaration_tokens x) (if_marked private (t.Reserved w.Private) tt) (of_declaration x))
 of_actor_field (field.Stable private x kind a) = (both (marked private (t.Reserved w.Private)) (t.Reserved w.Stable ∷ (t.Reserved w.Var ∷ (t.Identifier x ∷ ((led (t.Mark m.Colon) (option_map type_tokens kind)) ++ (t.Mark m.EqualSign ∷ (expression_tokens a)))))) (if_marked private (t.Reserved w.Private) tt) (one (t.Reserved w.Stable) (t.Reserved w.Var ∷ (t.Identifier x ∷ ((led (t.Mark m.Colon) (option_map type_tokens kind)) ++ (t.Mark m.EqualSign ∷ (expression_tokens a))))) tt (one (t.Reserved w.Var) (t.Identifier x ∷ ((led (t.Mark m.Colon) (option_map type_tokens kind)) ++ (t.Mark m.EqualSign ∷ (expression_tokens a)))) tt (one (t.Identifier x) ((led (t.Mark m.Colon) (option_map type_tokens kind)) ++ (t.Mark m.EqualSign ∷ (expression_tokens a))) tt (both (led (t.Mark m.Colon) (option_map type_tokens kind)) (t.Mark m.EqualSign ∷ (expression_tokens a)) (if_led (t.Mark m.Colon) (option_map type_tokens kind) tt (of_types_within kind)) (one (t.Mark m.EqualSign) (expression_tokens a) tt (of_expression a)))))))
 
-of_name : (x : Option (List ℕ)) → Closed (name_tokens x)
+of_name : (x : Option Name) → Closed (name_tokens x)
 of_name None = none
 of_name (Some x) = (one (t.Identifier x) [] tt none)
 

@@ -1,5 +1,6 @@
 -- In the writing of a type each mark `#` of a tag has its identifier behind it.
-use Rattle.std.proofs.Common.{ℕ, List, [], ◌∷◌, ◌++◌, Option, Some, None, sym, subst, map, option_map}
+use Rattle.std.proofs.Common.{List, [], ◌∷◌, ◌++◌, Option, Some, None, sym, subst, map, option_map}
+use Rattle.mo_syntax.specs.declared.name.Name.{Name}
 use Rattle.mo_syntax.specs.declared.word.Word.TheVariants as w
 use Rattle.mo_syntax.specs.declared.mark.Mark.TheVariants as m
 use Rattle.mo_syntax.specs.declared.token.TokenKind.TheVariants as t
@@ -28,7 +29,7 @@ of_sharing sharing.Local = none
 of_sharing sharing.Shared = (one (t.Reserved w.Shared) [] tt none)
 of_sharing sharing.SharedQuery = (one (t.Reserved w.Shared) (t.Reserved w.Query ∷ []) tt (one (t.Reserved w.Query) [] tt none))
 
-of_item_name : (name : Option (List ℕ)) → Closed (item_name name)
+of_item_name : (name : Option Name) → Closed (item_name name)
 of_item_name None = none
 of_item_name (Some x) = (one (t.Identifier x) (t.Mark m.Colon ∷ []) tt (one (t.Mark m.Colon) [] tt none))
 

@@ -8,7 +8,8 @@ use Rattle.std.specs.Option.{is_none}
 use Rattle.std.proofs.lemmas.Bool.{eqb-true, ltb-true}
 use Rattle.mo_syntax.specs.Characters.{is_digit, begins, goes_on, is_name_byte, is_name_start}
 use Rattle.mo_syntax.specs.Words.{word_text, word_of, mark_text}
-use Rattle.mo_syntax.specs.Lexed.{is_name, begins_hexadecimal, IsToken, IsCharacter, begins_comment, IsDecimal}
+use Rattle.mo_syntax.specs.Tokens.{plain, nowhere}
+use Rattle.mo_syntax.specs.Lexed.{is_name, is_identifier, begins_hexadecimal, IsToken, IsCharacter, begins_comment, IsDecimal}
 use Rattle.mo_syntax.specs.declared.word.Word.{Word}
 use Rattle.mo_syntax.specs.declared.word.Word.TheVariants as w
 use Rattle.mo_syntax.specs.declared.mark.Mark.{Mark}
@@ -78,8 +79,8 @@ character_low c text is =
 
 -- ---- all kinds
 
-pub token_stands : (before : Before) (kind : TokenKind) (text rest : List ℕ) → IsOfLanguage kind → IsSpelling kind text → Suits before kind → Follows (last_of kind) rest → IsToken before kind text rest
-token_stands before (t.Identifier name) text rest is e s h = (e, is, name_ends rest h)
+pub token_stands : (before : Before) (kind : TokenKind) (text rest : List ℕ) → IsOfLanguage kind → IsSpelling kind text → Suits before kind → Follows (last_of kind) rest → IsToken before (plain kind) text rest
+token_stands before (t.Identifier name) text rest is e s h = (ap (λ l. record { bytes = l; place = nowhere }) (sym e), ap is_identifier e ∙ is, name_ends rest h)
 token_stands before (t.Reserved word) text rest is e s h = (ap word_of e ∙ word_is word, ap is_name e ∙ word_is_name word, word_ends word rest h)
 token_stands before (t.Number n) text rest is e s h = (inl (decimal n text rest e.numeral h), e.fits)
 token_stands before (t.Character c) text rest is e s h = character_is c text is e
@@ -92,7 +93,8 @@ name_low : (name : List ℕ) → is_name name ≡ true → AreLow name
 name_low name h = low_from is_name_byte name name_byte_low (and_true (begins is_name_start name) (list_all is_name_byte name) h).1
 
 pub token_low : (kind : TokenKind) (text : List ℕ) → IsOfLanguage kind → IsSpelling kind text → AreLow text
-token_low (t.Identifier name) text is e = subst AreLow (sym e) (name_low name (and_true (is_name name) (not (bytes_eq name (95 ∷ [])) && is_none (word_of name)) is).0)
+token_low (t.Identifier name) text is e =
+    subst AreLow (sym e) (name_low name.bytes (and_true (is_name name.bytes) (not (bytes_eq name.bytes (95 ∷ [])) && is_none (word_of name.bytes)) is).0)
 token_low (t.Reserved word) text is e = subst AreLow (sym e) (name_low (word_text word) (word_is_name word))
 token_low (t.Number n) text is e = numeral_low 10 n text (omega arith) e.numeral
 token_low (t.Character c) text is e = character_low c text e

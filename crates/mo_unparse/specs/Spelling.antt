@@ -104,7 +104,7 @@ pub record AddsCharacter (value : ℕ) (old new : List ℕ) : Type 0 where
 
 -- the text is how a token of this kind is written
 abbrev pub IsSpelling : TokenKind → List ℕ → Type 0
-IsSpelling (t.Identifier name) text = text ≡ name
+IsSpelling (t.Identifier name) text = text ≡ name.bytes
 IsSpelling (t.Reserved word) text = text ≡ word_text word
 IsSpelling (t.Number n) text = NumberText n text
 IsSpelling (t.Character c) text = CharacterText c text

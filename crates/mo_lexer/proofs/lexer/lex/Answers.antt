@@ -1,4 +1,4 @@
-use Rattle.mo_lexer.proofs.Laws.{gives_these, refuses_this, in_order}
+use Rattle.mo_lexer.proofs.Laws.{gives_these, refuses_this, in_order, are_named}
 use Rattle.mo_lexer.proofs.lexer.lex.Goals as goal
 
 pub returns-clause-only_tokens : goal.returns-clause-only_tokens
@@ -9,3 +9,6 @@ returns-clause-only_fault c = λ fault faults. refuses_this c.args.source.now c.
 
 pub returns-clause-ordered : goal.returns-clause-ordered
 returns-clause-ordered c = in_order c.args.source.now c.answer.result c.answer.ensures.found
+
+pub returns-clause-named : goal.returns-clause-named
+returns-clause-named c = are_named c.args.source.now c.answer.result c.answer.ensures.found
