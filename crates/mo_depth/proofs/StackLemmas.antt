@@ -1,10 +1,9 @@
 -- How the brackets and the `<` stand behind one token more.
-use Rattle.std.proofs.Common.{◌≡◌, ℕ, suc, ◌+◌, ◌<◌, ◌≤◌, Bool, true, false, List, [], ◌∷◌, ◌++◌, length, take, get_or, below_more, refl, sym, ap, ◌∙◌, subst, arith}
+use Rattle.std.proofs.Common.{◌≡◌, ℕ, suc, ◌+◌, ◌<◌, ◌≤◌, true, false, List, [], ◌∷◌, ◌++◌, length, take, get_or, below_more, refl, sym, ap, ◌∙◌, subst, arith}
 use Rattle.std.proofs.Math.Seq.{take-suc}
 use Rattle.std.proofs.lemmas.List.Sums.{fold-append}
 use Rattle.mo_syntax.specs.declared.token.Token.{Token}
 use Rattle.mo_syntax.specs.declared.mark.Mark.TheVariants as m
-use Rattle.mo_depth.specs.declared.frame.Frame.{Frame}
 use Rattle.mo_depth.specs.Depth.{Standing, begin, closes, depth}
 use Rattle.mo_depth.specs.Stack.{AreHeld, angle_step, behind_angles, open_at, outside_angles, outside_from, without_inner}
 

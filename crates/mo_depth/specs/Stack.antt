@@ -1,7 +1,7 @@
 -- How many constructs may be open at a token, taken just before it. It is the depth with one difference: the `<` of types opens a bracket too,
 -- which its `>` closes, so that a `,` inside it resets no other count. A `;` and the closing marks `) ] }` leave each `<` that stands open in
 -- the innermost other bracket, since none of them stands directly inside `< >`.
-use Rattle.std.specs.Prelude.{◌≡◌, ℕ, ◌<◌, ◌≤◌, Bool, true, false, if◌then◌else◌, List, [], ◌∷◌, take, fold}
+use Rattle.std.specs.Prelude.{ℕ, ◌<◌, ◌≤◌, Bool, true, false, if◌then◌else◌, List, [], ◌∷◌, take, fold}
 use Rattle.mo_syntax.specs.declared.token.Token.{Token}
 use Rattle.mo_syntax.specs.declared.token.TokenKind.{TokenKind}
 use Rattle.mo_syntax.specs.declared.token.TokenKind.TheVariants as t

@@ -9,7 +9,7 @@ use mo_syntax::Token;
 use std::alloc::Global;
 
 /// The greatest depth of a token.
-pub const MOST: usize = 400;
+const MOST: usize = 400;
 
 /// Where the first token starts whose depth passes 400, if there is one.
 pub fn first_deep(alloc: Global, tokens: &[Token]) -> Result<Option<u32>, Memory>
@@ -20,7 +20,7 @@ pub fn first_deep(alloc: Global, tokens: &[Token]) -> Result<Option<u32>, Memory
         if nesting.depth > MOST {
             return Ok(Some(token.start));
         }
-        nesting = nesting.step(role_of(&token.kind))?;
+        nesting.step(role_of(&token.kind))?;
     }
     Ok(None)
 }

@@ -8,7 +8,7 @@ mod role;
 mod stack;
 mod steps;
 
-pub use deep::{MOST, first_deep};
+pub use deep::first_deep;
 pub use frame::Frame;
 pub use role::Role;
-pub use stack::{MOST_OPEN, ask_for_stack};
+pub use stack::ask_for_stack;

@@ -1,5 +1,5 @@
 //! Room on the native stack.
-ghost use Rattle.std.specs.Prelude.{◌≡◌, ◌≤◌, IfOk, length};
+ghost use Rattle.std.specs.Prelude.{◌≡◌, ◌≤◌, IfOk, OnOk, length};
 ghost use Rattle.mo_depth.specs.Nested.{standing};
 ghost use Rattle.mo_depth.specs.Stack as spec;
 ghost use Rattle.mo_depth.specs.Stack.{AreHeld};
@@ -11,7 +11,7 @@ use mo_syntax::{Mark, Token, TokenKind};
 use std::alloc::Global;
 
 /// The greatest number of constructs that may be open at a token.
-pub const MOST_OPEN: usize = 1_000;
+const MOST_OPEN: usize = 1_000;
 
 /// What the token does to the brackets, of which `<` is one here.
 fn angle_role(kind: &TokenKind) -> Role
@@ -37,23 +37,21 @@ fn ends_angles(kind: &TokenKind) -> bool
 }
 
 impl Nesting {
-    fn before(self, kind: &TokenKind) -> Nesting
-        requires { self.depth ≤ 1000 }
-        ensures at { standing result ≡ spec.before_mark (standing self) kind.now }
-        ensures below { result.depth ≤ self.depth }
+    fn before(&mut self, kind: &TokenKind)
+        ensures at { standing self.new ≡ spec.before_mark (standing self.old) kind.now }
+        ensures below { self.new.depth ≤ self.old.depth }
     {
         if ends_angles(kind) {
-            self.leave_angles()
-        } else {
-            self
+            self.leave_angles();
         }
     }
 
-    fn angle_step(self, kind: &TokenKind) -> Result<Nesting, Memory>
-        requires { self.depth ≤ 1000 }
-        ensures { IfOk result (λ next. standing next ≡ spec.angle_step (standing self) kind.now) }
+    fn angle_step(&mut self, kind: &TokenKind) -> Result<(), Memory>
+        requires { self.old.depth ≤ 1000 }
+        ensures { OnOk result (standing self.new ≡ spec.angle_step (standing self.old) kind.now) }
     {
-        self.before(kind).step(angle_role(kind))
+        self.before(kind);
+        self.step(angle_role(kind))
     }
 }
 
@@ -68,7 +66,7 @@ pub fn ask_for_stack(alloc: Global, tokens: &[Token]) -> Result<(), Memory>
         if nesting.depth > MOST_OPEN {
             return Err(Memory);
         }
-        nesting = nesting.angle_step(&token.kind)?;
+        nesting.angle_step(&token.kind)?;
     }
     Ok(())
 }

@@ -1,5 +1,5 @@
 //! What a token does to the brackets that are open.
-ghost use Rattle.std.specs.Prelude.{◌≡◌, ◌≤◌, IfOk};
+ghost use Rattle.std.specs.Prelude.{◌≡◌, ◌≤◌, OnOk};
 ghost use Rattle.mo_depth.specs.Depth as spec;
 ghost use Rattle.mo_depth.specs.Nested.{standing};
 ghost use Rattle.mo_depth.specs.Stack as stack;
@@ -36,150 +36,94 @@ impl Nesting {
         }
     }
 
-    fn open(self, close: Mark) -> Result<Nesting, Memory>
-        requires { self.depth ≤ 1000 }
-        ensures { IfOk result (λ next. standing next ≡ spec.opened (standing self) close) }
+    fn open(&mut self, close: Mark) -> Result<(), Memory>
+        requires { self.old.depth ≤ 1000 }
+        ensures { OnOk result (standing self.new ≡ spec.opened (standing self.old) close) }
     {
-        let Nesting {
-            inner,
-            mut outer,
-            depth,
-        } = self;
-        outer.push_front(inner)?;
-        Ok(Nesting {
-            inner: Frame {
-                close: Some(close),
-                count: 0,
-            },
-            outer,
-            depth: depth + 1,
-        })
+        self.outer.push_front(self.inner)?;
+        self.inner = Frame {
+            close: Some(close),
+            count: 0,
+        };
+        self.depth += 1;
+        Ok(())
     }
 
-    fn count(self) -> Nesting
-        requires { self.depth ≤ 1000 }
-        ensures { standing result ≡ spec.counted (standing self) }
+    fn count(&mut self)
+        requires { self.old.depth ≤ 1000 }
+        ensures { standing self.new ≡ spec.counted (standing self.old) }
     {
-        let Nesting {
-            inner,
-            outer,
-            depth,
-        } = self;
-        Nesting {
-            inner: Frame {
-                close: inner.close,
-                count: inner.count + 1,
-            },
-            outer,
-            depth: depth + 1,
-        }
+        self.inner.count += 1;
+        self.depth += 1;
     }
 
-    fn separate(self) -> Nesting
-        ensures { standing result ≡ spec.separated (standing self) }
+    fn separate(&mut self)
+        ensures { standing self.new ≡ spec.separated (standing self.old) }
     {
-        let Nesting {
-            inner,
-            outer,
-            depth,
-        } = self;
-        Nesting {
-            inner: Frame {
-                close: inner.close,
-                count: 0,
-            },
-            outer,
-            depth: depth - inner.count,
-        }
+        self.depth -= self.inner.count;
+        self.inner.count = 0;
     }
 
-    fn leave(self) -> Nesting
-        requires { self.depth ≤ 1000 }
-        ensures { standing result ≡ spec.left (standing self) }
+    fn leave(&mut self)
+        requires { self.old.depth ≤ 1000 }
+        ensures { standing self.new ≡ spec.left (standing self.old) }
     {
-        let Nesting {
-            inner,
-            mut outer,
-            depth,
-        } = self;
-        match outer.pop_front() {
-            Some(frame) => Nesting {
-                inner: Frame {
+        match self.outer.pop_front() {
+            Some(frame) => {
+                self.depth = self.depth - self.inner.count + 1;
+                self.inner = Frame {
                     close: frame.close,
                     count: frame.count + 2,
-                },
-                outer,
-                depth: depth - inner.count + 1,
-            },
-            None => Nesting {
-                inner: Frame {
-                    close: inner.close,
-                    count: inner.count + 1,
-                },
-                outer,
-                depth: depth + 1,
-            },
+                };
+            }
+            None => self.count(),
         }
     }
 
-    fn close(self, mark: Mark) -> Nesting
-        requires { self.depth ≤ 1000 }
-        ensures { standing result ≡ spec.closed (standing self) mark }
+    fn close(&mut self, mark: Mark)
+        requires { self.old.depth ≤ 1000 }
+        ensures { standing self.new ≡ spec.closed (standing self.old) mark }
     {
         if closes(&self.inner, mark) {
-            self.leave()
+            self.leave();
         } else {
-            self.count()
+            self.count();
         }
     }
 
-    fn drop_inner(self) -> Nesting
-        ensures at { standing result ≡ stack.without_inner (standing self) }
-        ensures below { result.depth ≤ self.depth }
+    fn drop_inner(&mut self)
+        ensures at { standing self.new ≡ stack.without_inner (standing self.old) }
+        ensures below { self.new.depth ≤ self.old.depth }
     {
-        let Nesting {
-            inner,
-            mut outer,
-            depth,
-        } = self;
-        match outer.pop_front() {
-            Some(frame) => Nesting {
-                inner: frame,
-                outer,
-                depth: depth - inner.count - 1,
-            },
-            None => Nesting {
-                inner,
-                outer,
-                depth,
-            },
+        if let Some(frame) = self.outer.pop_front() {
+            self.depth = self.depth - self.inner.count - 1;
+            self.inner = frame;
         }
     }
 
     /// Out of each `<` that stands open in the innermost bracket `( [ {`, or in the whole text.
-    pub(crate) fn leave_angles(self) -> Nesting
-        ensures at { standing result ≡ stack.outside_angles (standing self) }
-        ensures below { result.depth ≤ self.depth }
+    pub(crate) fn leave_angles(&mut self)
+        ensures at { standing self.new ≡ stack.outside_angles (standing self.old) }
+        ensures below { self.new.depth ≤ self.old.depth }
     {
-        let mut nesting = self;
-        for _turn in 0..nesting.outer.len() {
-            if !closes(&nesting.inner, Mark::AngleClose) {
-                return nesting;
+        for _turn in 0..self.outer.len() {
+            if !closes(&self.inner, Mark::AngleClose) {
+                return;
             }
-            nesting = nesting.drop_inner();
+            self.drop_inner();
         }
-        nesting
     }
 
-    pub(crate) fn step(self, role: Role) -> Result<Nesting, Memory>
-        requires { self.depth ≤ 1000 }
-        ensures { IfOk result (λ next. standing next ≡ spec.step (standing self) role) }
+    pub(crate) fn step(&mut self, role: Role) -> Result<(), Memory>
+        requires { self.old.depth ≤ 1000 }
+        ensures { OnOk result (standing self.new ≡ spec.step (standing self.old) role) }
     {
         match role {
-            Role::Opens(close) => self.open(close),
-            Role::Closes(mark) => Ok(self.close(mark)),
-            Role::Separates => Ok(self.separate()),
-            Role::Other => Ok(self.count()),
+            Role::Opens(close) => self.open(close)?,
+            Role::Closes(mark) => self.close(mark),
+            Role::Separates => self.separate(),
+            Role::Other => self.count(),
         }
+        Ok(())
     }
 }

@@ -6,6 +6,7 @@ use Rattle.mo_syntax.specs.declared.program.Tree.{Tree}
 use Rattle.mo_syntax.specs.ProgramGrammar.{Spells}
 use Rattle.mo_parser_base.specs.Input.{kinds}
 use Rattle.mo_depth.specs.Depth.{AreShallow, IsDeepAt}
+use Rattle.mo_depth.specs.Stack.{AreHeld}
 use Rattle.mo_parser.specs.declared.fault.ParseFault.{ParseFault}
 use Rattle.mo_parser.specs.declared.fault.ParseFault.TheVariants as faults
 
@@ -44,6 +45,13 @@ Answers tokens (Ok tree) = AreShallow (length tokens) tokens × Spells tree (kin
 Answers tokens (Err (faults.TooDeep place)) = IsDeepAt place tokens
 Answers tokens (Err (faults.Syntax place)) = AreShallow (length tokens) tokens × (SpellNone (kinds tokens) × IsPlace place tokens)
 Answers tokens (Err faults.Memory) = Unit {0}
+
+-- A tree, or that there is none, is only answered of tokens that leave room on the native stack.
+abbrev pub IsHeld : List Token → Result Tree ParseFault → Type 0
+IsHeld tokens (Ok tree) = AreHeld (length tokens) tokens
+IsHeld tokens (Err (faults.TooDeep place)) = Unit {0}
+IsHeld tokens (Err (faults.Syntax place)) = AreHeld (length tokens) tokens
+IsHeld tokens (Err faults.Memory) = Unit {0}
 
 -- this tree is the answer, unless there is no memory
 abbrev pub Finds : Tree → Result Tree ParseFault → Type 0

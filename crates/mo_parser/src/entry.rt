@@ -4,7 +4,7 @@ ghost use Rattle.mo_syntax.specs.declared.program.Tree.{Tree as ATree};
 ghost use Rattle.mo_syntax.specs.ProgramGrammar.{Spells};
 ghost use Rattle.mo_parser_base.specs.Input.{kinds};
 ghost use Rattle.mo_depth.specs.Depth.{AreShallow};
-ghost use Rattle.mo_parser.specs.Answers.{Answers, Finds, IsPlace, IsRead};
+ghost use Rattle.mo_parser.specs.Answers.{Answers, Finds, IsHeld, IsPlace, IsRead};
 
 use crate::fault::ParseFault;
 use crate::program::program;
@@ -39,10 +39,13 @@ fn shallow(alloc: Global, tokens: &[Token]) -> Result<Tree, ParseFault>
 }
 
 /// The tree that spells the tokens, or the fault: `TooDeep` where a token stands too deep, and else `Syntax` where no tree spells them.
-/// `Memory` where there was none for the tree, or where the native stack might not hold the reading: `ask_for_stack` says when.
+/// `Memory` where there was none for the tree, or where the native stack might not hold the reading: a tree, or `Syntax`, is only answered of
+/// tokens that `ask_for_stack` lets pass.
+#[tactic(auto, using(crate::proofs::Answered::only))]
 pub fn parse(alloc: Global, tokens: &[Token]) -> Result<Tree, ParseFault>
     ensures answers { Answers tokens.now result }
     ensures found { IfOk result (λ tree. Spells tree (kinds tokens.now)) }
+    ensures held { IsHeld tokens.now result }
     ensures only { (tree : ATree) → Spells tree (kinds tokens.now) → AreShallow (length tokens.now) tokens.now → Finds tree result }
 {
     match first_deep(alloc, tokens)? {

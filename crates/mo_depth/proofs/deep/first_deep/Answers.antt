@@ -12,7 +12,7 @@ returns-then-nesting-gt-MOST c = is_deep c.args.tokens.now c.loop-token.token-in
 
 pub loop-token-preserved : goal.loop-token-preserved
 loop-token-preserved c = record {
-  stands = stands_more c.args.tokens.now c.loop-token.token-index c.token-item.result (standing c.loop-token.nesting) (standing c.in_ok-nesting.nesting) c.role_of.result
-      c.loop-token-test.true c.token-item.is c.loop-token.invariant.stands c.role_of.ensures c.in_ok-nesting.ensures;
+  stands = stands_more c.args.tokens.now c.loop-token.token-index c.token-item.result (standing c.loop-token.nesting) (standing c.step.new.self) c.role_of.result
+      c.loop-token-test.true c.token-item.is c.loop-token.invariant.stands c.role_of.ensures c.in_ok-step.ensures;
   shallow = shallow_more c.args.tokens.now c.loop-token.token-index _ c.loop-token.invariant.stands (omega (arith, c.loop-token.nesting.summed, c.if-nesting-gt-MOST.false)) c.loop-token.invariant.shallow;
 }

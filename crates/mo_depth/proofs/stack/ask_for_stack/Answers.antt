@@ -8,7 +8,7 @@ loop-token-init c = record { stands = c.new-nesting.ensures ∙ behind_none; hel
 
 pub loop-token-preserved : goal.loop-token-preserved
 loop-token-preserved c = record {
-  stands = stands_more c.args.tokens.now c.loop-token.token-index c.token-item.result (standing c.loop-token.nesting) (standing c.in_ok-nesting.nesting)
-      c.loop-token-test.true c.token-item.is c.loop-token.invariant.stands c.in_ok-nesting.ensures;
+  stands = stands_more c.args.tokens.now c.loop-token.token-index c.token-item.result (standing c.loop-token.nesting) (standing c.angle_step.new.self)
+      c.loop-token-test.true c.token-item.is c.loop-token.invariant.stands c.in_ok-angle_step.ensures;
   held = held_more c.args.tokens.now c.loop-token.token-index _ c.loop-token.invariant.stands (omega (arith, c.loop-token.nesting.summed, c.if-nesting-gt-MOST_OPEN.false)) c.loop-token.invariant.held;
 }

@@ -5,7 +5,7 @@ use Rattle.mo_depth.proofs.nesting.Nesting.leave_angles.Given as goal
 
 abbrev pub invariant-loop-turn : goal.invariant-loop-turn
 invariant-loop-turn l = record {
-  same : outside_angles (standing l.nesting) ≡ outside_angles (standing l.initial.nesting);
-  left : length l.nesting.outer.items + l._turn ≡ length l.initial.nesting.outer.items;
-  below : l.nesting.depth ≤ l.initial.nesting.depth;
+  same : outside_angles (standing l.self) ≡ outside_angles (standing l.fn.self);
+  left : length l.self.outer.items + l._turn ≡ length l.fn.self.outer.items;
+  below : l.self.depth ≤ l.fn.self.depth;
 }
