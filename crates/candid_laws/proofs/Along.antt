@@ -152,5 +152,5 @@ module _ {A B : Type 0} (head : A → Node A) (other : B → Node B) where
         };
       }
 
-pub kept_reads : {A : Type 0} (head : A → Node A) (t u : A) (v w : Values) (bytes : List ℕ) → Keep head t u v w → Reads head (t ∷ []) bytes v → Reads head (u ∷ []) bytes w
-kept_reads head t u v w bytes k r = reads_along head head (t ∷ []) (u ∷ []) v w bytes (k.types, tt) (sym k.same) k.new r
+pub kept_reads : {A B : Type 0} (head : A → Node A) (next : B → Node B) (t : A) (u : B) (v w : Values) (bytes : List ℕ) → Keep head next t u v w → Reads head (t ∷ []) bytes v → Reads next (u ∷ []) bytes w
+kept_reads head next t u v w bytes k r = reads_along head next (t ∷ []) (u ∷ []) v w bytes (k.types, tt) (sym k.same) k.new r

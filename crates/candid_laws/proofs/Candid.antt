@@ -83,5 +83,5 @@ module _ {A : Type 0} (head : A → Node A) where
       let x = node_once (head t) p q i j (λ us a b c. form_once us i j a b c) h.0 h.1 k.0 k.1 f g in
       same_value p q i j o u x.0 x.1 (form_once ts o u h.2 k.2 l)
 
-  pub kept_once : (t u : A) (v w x : Values) → Keep head t u v w → Keep head t u v x → w ≡ x
-  kept_once t u v w x h k = form_once (u ∷ []) w x h.new k.new (h.same ∙ sym k.same)
+pub kept_once : {A B : Type 0} (head : A → Node A) (next : B → Node B) (t : A) (u : B) (v w x : Values) → Keep head next t u v w → Keep head next t u v x → w ≡ x
+kept_once head next t u v w x h k = form_once next (u ∷ []) w x h.new k.new (h.same ∙ sym k.same)

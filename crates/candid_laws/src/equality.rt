@@ -17,7 +17,7 @@ pub fn equal_types_are_read_alike()
     ensures { (head other : TypeId → Node TypeId) (types others : List TypeId) (v w : Values) (bytes : List ℕ) → SameParts (SameWire (wire head) (wire other)) (refs types) (refs others) → form head types v ≡ form other others w → HaveTypes other others w → Reads head types bytes v → Reads other others bytes w }
 {}
 
-/// A message that is read as a value is read, at the other type, as what that value is kept as.
+/// A message that is read as a value is read, at the type of the next program, as what that value is kept as.
 pub fn kept_values_are_read_alike()
-    ensures { (head : TypeId → Node TypeId) (old new : TypeId) (v w : Values) (bytes : List ℕ) → Keep head old new v w → Reads head (old ∷ []) bytes v → Reads head (new ∷ []) bytes w }
+    ensures { (head next : TypeId → Node TypeId) (old new : TypeId) (v w : Values) (bytes : List ℕ) → Keep head next old new v w → Reads head (old ∷ []) bytes v → Reads next (new ∷ []) bytes w }
 {}

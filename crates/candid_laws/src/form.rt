@@ -11,7 +11,7 @@ pub fn one_value_of_a_form()
     ensures { (head : TypeId → Node TypeId) (types : List TypeId) (v w : Values) → HaveTypes head types v → HaveTypes head types w → form head types v ≡ form head types w → v ≡ w }
 {}
 
-/// A value is kept as one value of a type at most.
+/// A value is kept as one value of a type of the next program at most.
 pub fn one_kept_value()
-    ensures { (head : TypeId → Node TypeId) (old new : TypeId) (value v w : Values) → Keep head old new value v → Keep head old new value w → v ≡ w }
+    ensures { (head next : TypeId → Node TypeId) (old new : TypeId) (value v w : Values) → Keep head next old new value v → Keep head next old new value w → v ≡ w }
 {}

@@ -8,7 +8,7 @@ use Rattle.mo_types.specs.Wire.{wire, SameTo}
 use Rattle.mo_types.specs.Header.{Done, Skip, New, IsKnown, IsAt}
 use Rattle.mo_types.specs.Spelling.{Then, shortest}
 use Rattle.mo_types.specs.Code.{Code, Keep, StableBytes, Saved, Whole, Inner, saved_head}
-use Rattle.mo_types.specs.Examples.{list_head, list_of_one, message_of_a_list, letter_head, letter_a, ninety_seven, variable_n, stable_memory}
+use Rattle.mo_types.specs.Examples.{list_head, list_of_one, message_of_a_list, letter_head, letter_a, ninety_seven, number_head, variable_n, stable_memory}
 use Rattle.mo_types.proofs.Candid.{head, option_same, tuple_same, list_visited}
 
 -- No number is spelled by no bytes.
@@ -74,12 +74,12 @@ list_written = first_then (0x44 ∷ 0x49 ∷ 0x44 ∷ 0x4c ∷ 0x02 ∷ 0x6e ∷
 
 -- ---- keeping
 
-letter_same : (n : ℕ) → SameTo (wire letter_head) (wire letter_head) n (Of 0) (Of 1)
+letter_same : (n : ℕ) → SameTo (wire letter_head) (wire number_head) n (Of 0) (Of 0)
 unfolding SameTo
 letter_same zero = tt
 letter_same (suc n) = refl
 
-pub letter_kept : Keep letter_head 0 1 letter_a ninety_seven
+pub letter_kept : Keep letter_head number_head 0 0 letter_a ninety_seven
 letter_kept = record {
   types = record { to = letter_same };
   old = (inl (omega arith), tt, tt);

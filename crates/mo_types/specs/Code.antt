@@ -40,12 +40,12 @@ module _ {A : Type 0} (head : A → Node A) where
     pub same : SameEach table args types
     pub spelled : Then (IsHeader padded (IsTableRef padded) table args) (Spell padded (FewEmpty (wire head)) (wire head) (refs types) (form head types values)) bytes
 
-  -- v of the type t, kept as w of the type u: both have the same Candid type and value
-  pub record Keep (t u : A) (v w : Values) : Type 0 where
-    pub types : SameWire (wire head) (wire head) (Of t) (Of u)
-    pub old : HaveTypes head (t ∷ []) v
-    pub new : HaveTypes head (u ∷ []) w
-    pub same : form head (u ∷ []) w ≡ form head (t ∷ []) v
+-- v of the type t of one program, kept as w of the type u of the next one: both have the same Candid type and value
+pub record Keep {A B : Type 0} (head : A → Node A) (next : B → Node B) (t : A) (u : B) (v w : Values) : Type 0 where
+  pub types : SameWire (wire head) (wire next) (Of t) (Of u)
+  pub old : HaveTypes head (t ∷ []) v
+  pub new : HaveTypes next (u ∷ []) w
+  pub same : form next (u ∷ []) w ≡ form head (t ∷ []) v
 
 -- ---- stable form 1: one record of the stable variables, by name
 

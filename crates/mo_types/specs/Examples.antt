@@ -37,10 +37,12 @@ list_of_one = Value part.Present (Value (part.Record 2) (Value (part.Number (pos
 abbrev pub message_of_a_list : List ℕ
 message_of_a_list = 0x44 ∷ 0x49 ∷ 0x44 ∷ 0x4c ∷ 0x02 ∷ 0x6e ∷ 0x01 ∷ 0x6c ∷ 0x02 ∷ 0x00 ∷ 0x7d ∷ 0x01 ∷ 0x00 ∷ 0x01 ∷ 0x00 ∷ 0x01 ∷ 0x01 ∷ 0x00 ∷ []
 
--- 0 is a character, and all others are Nat32
+-- all types of one program are characters, and all of the next one are Nat32
 abbrev pub letter_head : ℕ → Node ℕ
-letter_head zero = node.Char
-letter_head (suc n) = node.Number kind.Nat32
+letter_head n = node.Char
+
+abbrev pub number_head : ℕ → Node ℕ
+number_head n = node.Number kind.Nat32
 
 abbrev pub letter_a : Values
 letter_a = Value (part.Char 97) Nil Nil

@@ -6,7 +6,7 @@ ghost use Rattle.mo_types.specs.declared.wire.Ref.TheVariants.{Of};
 ghost use Rattle.mo_types.specs.Wire.{wire};
 ghost use Rattle.mo_types.specs.Header.{Visits};
 ghost use Rattle.mo_types.specs.Code.{Code, Keep, Reads, StableBytes};
-ghost use Rattle.mo_types.specs.Examples.{err_field, forty_two, letter_a, letter_head, list_head, list_of_one, message_of_42, message_of_a_list, ninety_seven, ok_field, stable_memory, variable_n};
+ghost use Rattle.mo_types.specs.Examples.{err_field, forty_two, letter_a, letter_head, list_head, list_of_one, message_of_42, message_of_a_list, ninety_seven, number_head, ok_field, stable_memory, variable_n};
 
 /// Each list of parts is that of the values that it stands for.
 pub fn parts_are_values()
@@ -33,9 +33,9 @@ pub fn a_list_is_written()
     ensures { Code list_head (0 ∷ []) list_of_one message_of_a_list }
 {}
 
-/// A character that was kept is the number of it where a number is wanted.
+/// A character that was kept is the number of it where the next program wants a number.
 pub fn a_character_is_kept()
-    ensures { Keep letter_head 0 1 letter_a ninety_seven }
+    ensures { Keep letter_head number_head 0 0 letter_a ninety_seven }
 {}
 
 /// What stable memory holds of one variable.

@@ -60,7 +60,7 @@ pub enum Node<T = TypeId> {
     Object(Sequence<Field<T>>),
     Actor(Sequence<Field<T>>),
     Variant(Sequence<Field<T>>),
-    /// Parameters and results.
+    /// Parameters and results. Those of `shared A -> async B` are `A` and `B`, without the `async`.
     Func(Sort, Sequence<T>, Sequence<T>),
     /// `async T`.
     Async(T),

@@ -1,9 +1,10 @@
 -- The small examples.
-use Rattle.std.proofs.Common.{◌≡◌, ℕ, zero, suc, ◌<◌, ◌≤◌, Bool, true, false, List, [], ◌∷◌, ◌++◌, Option, Some, None, refl, sym, ap, subst, ◌∙◌, arith, inl, inr, if◌then◌else◌}
-use Rattle.mo_types.specs.Calls.{Call, Open, Answered, Lost, HasRoom, OwnsOpen, is_open_state, open_count, set_state, state_of}
+use Rattle.std.proofs.Common.{◌≡◌, ℕ, zero, suc, ◌+◌, ◌<◌, ◌≤◌, Bool, true, false, List, [], ◌∷◌, ◌++◌, length, nat_eq, Option, Some, None, refl, sym, ap, subst, ◌∙◌, arith, inl, inr, if◌then◌else◌}
+use Rattle.std.specs.Cmp.{unsigned_Decides}
+use Rattle.mo_types.specs.Calls.{State, Call, CallTable, Open, Answered, Lost, HasRoom, IsOpen, OwnsOpen, call_from, count_open, is_open_state, next_number, open_count, opened, set_state, state_of}
 use Rattle.mo_types.specs.Sub.{Sub, IsSubtype}
 use Rattle.mo_subtype.specs.Certificate.{Fails}
-use Rattle.type_tests.specs.Examples.{Small, ANat, AText, AUnit, AnAny, AnInt, Asked, Inner, IntCell, Loop, Narrow, NatCell, Outcome, Pair, ParameterT, ParameterU, Single, Success, Twice, Wide, open_calls, small_head, two_calls}
+use Rattle.type_tests.specs.Examples.{Small, ANat, AText, AUnit, AnAny, AnInt, Asked, Inner, IntCell, Loop, Narrow, NatCell, Outcome, Pair, ParameterT, ParameterU, Single, Success, Twice, Wide, open_calls, resuming_calls, small_head, two_calls}
 
 mutual
   unfolding Sub
@@ -205,40 +206,69 @@ other_parameter_fails = record { at = t_u; less = at_one ParameterT ParameterU t
 
 -- ---- calls
 
+abbrev call_of : ℕ → State ℕ → Call ℕ ℕ
+call_of owner s = record { owner = owner; results = 0; resumes = None; state = s }
+
+-- one call or another, by two comparisons of numbers
+abbrev one_of : Call ℕ ℕ → Call ℕ ℕ → Bool → Bool → Option (Call ℕ ℕ)
+one_of c d b e = if b then Some c else (if e then Some d else None)
+
 abbrev owner_of : Option (Call ℕ ℕ) → ℕ
 owner_of None = 0
 owner_of (Some c) = c.owner
 
 pub first_owner : OwnsOpen two_calls 3
-first_owner = (0, record { owner = 3; results = 0; resumes = None; state = Open }, refl, refl, refl)
+first_owner = (7, call_of 3 Open, refl, refl, refl)
 
-pub second_owner : OwnsOpen (set_state two_calls 0 Lost) 4
-second_owner = (1, record { owner = 4; results = 0; resumes = Some 0; state = Open }, refl, refl, refl)
+pub second_owner : OwnsOpen (set_state two_calls 7 Lost) 4
+second_owner = (8, call_of 4 Open, refl, refl, refl)
+
+pub resuming_owner : OwnsOpen resuming_calls 3
+resuming_owner = (9, record { owner = 3; results = 0; resumes = Some 7; state = Open }, refl, refl, refl)
 
 pub no_owner : OwnsOpen two_calls 5 → ⊥
-no_owner (zero, c, there, own, is) = let e = ap owner_of there in absurd (omega arith)
-no_owner (suc zero, c, there, own, is) = let e = ap owner_of there in absurd (omega arith)
-no_owner (suc (suc n), c, there, own, is) = cc
+no_owner (n, c, there, own, is) = by (nat_eq 7 n) (nat_eq 8 n) c there own where
+  by : (b e : Bool) (c : Call ℕ ℕ) → one_of (call_of 3 Open) (call_of 4 Open) b e ≡ Some c → c.owner ≡ 5 → ⊥
+  by true e c there own = let o = ap owner_of there in absurd (omega arith)
+  by false true c there own = let o = ap owner_of there in absurd (omega arith)
+  by false false c there own = cc
 
-pub answered_owner : OwnsOpen (set_state two_calls 0 (Answered (Some 9))) 3 → ⊥
-answered_owner (zero, c, there, own, is) = let e = ap state_of there in cc
-answered_owner (suc zero, c, there, own, is) = let e = ap owner_of there in absurd (omega arith)
-answered_owner (suc (suc n), c, there, own, is) = cc
+pub answered_owner : OwnsOpen (set_state two_calls 7 (Answered (Some 9))) 3 → ⊥
+answered_owner (n, c, there, own, is) = by (nat_eq 7 n) (nat_eq 8 n) c there own is where
+  by : (b e : Bool) (c : Call ℕ ℕ) → one_of (call_of 3 (Answered (Some 9))) (call_of 4 Open) b e ≡ Some c → c.owner ≡ 3 → c.state ≡ Open → ⊥
+  by true e c there own is = let s = ap state_of there in cc
+  by false true c there own is = let o = ap owner_of there in absurd (omega arith)
+  by false false c there own is = cc
+
+first_found : (b : Bool) (d : Call ℕ ℕ) → b ≡ true → (if b then Some d else None) ≡ Some d
+first_found true d h = refl
+first_found false d h = cc
+
+later_found : (b : Bool) (c d : Call ℕ ℕ) (o : Option (Call ℕ ℕ)) → (b ≡ true → ⊥) → o ≡ Some d → (if b then Some c else o) ≡ Some d
+later_found true c d o h e = absurd (h refl)
+later_found false c d o h e = e
+
+-- the call at the end has the next number
+last_found : (first number : ℕ) (calls : List (Call ℕ ℕ)) (d : Call ℕ ℕ) → number ≡ first + length calls → call_from first (calls ++ d ∷ []) number ≡ Some d
+last_found first number [] d e = first_found (nat_eq first number) d ((unsigned_Decides first number).1 (omega arith))
+last_found first number (c ∷ calls) d e =
+    let apart : nat_eq first number ≡ true → ⊥ = λ h. let same : first ≡ number = (unsigned_Decides first number).0 h in absurd (omega arith) in
+    later_found (nat_eq first number) c d (call_from (suc first) (calls ++ d ∷ []) number) apart (last_found (suc first) number calls d (omega arith))
+
+pub next_is_open : (table : CallTable ℕ ℕ) (owner results : ℕ) (resumes : Option ℕ) → IsOpen (opened table owner results resumes) (next_number table)
+next_is_open table owner results resumes = ap state_of (last_found table.first (next_number table) table.calls (record { owner = owner; results = results; resumes = resumes; state = Open }) refl)
 
 one_longer : (b : Bool) (m n : ℕ) → m ≡ suc n → (if b then suc m else m) ≡ suc (if b then suc n else n)
 one_longer true m n h = ap (λ (k : ℕ). suc k) h
 one_longer false m n h = h
 
-abbrev third : Call ℕ ℕ
-third = record { owner = 3; results = 0; resumes = None; state = Open }
-
-one_more : (calls : List (Call ℕ ℕ)) → open_count (calls ++ third ∷ []) ≡ suc (open_count calls)
+one_more : (calls : List (Call ℕ ℕ)) → count_open (calls ++ call_of 3 Open ∷ []) ≡ suc (count_open calls)
 one_more [] = refl
-one_more (d ∷ calls) = one_longer (is_open_state d.state) (open_count (calls ++ third ∷ [])) (open_count calls) (one_more calls)
+one_more (d ∷ calls) = one_longer (is_open_state d.state) (count_open (calls ++ call_of 3 Open ∷ [])) (count_open calls) (one_more calls)
 
 counted : (n : ℕ) → open_count (open_calls n) ≡ n
 counted zero = refl
-counted (suc n) = one_more (open_calls n) ∙ ap (λ (n : ℕ). suc n) (counted n)
+counted (suc n) = one_more (open_calls n).calls ∙ ap (λ (n : ℕ). suc n) (counted n)
 
 pub room_below : (n : ℕ) → n < 500 → HasRoom (open_calls n)
 room_below n h = subst (λ k. k < 500) (sym (counted n)) h

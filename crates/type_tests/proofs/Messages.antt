@@ -29,7 +29,7 @@ mutual
   byte_byte zero = tt
   byte_byte (suc n) = refl
 
-pub array_kept : Keep small_head ByteArray ABlob byte_array byte_blob
+pub array_kept : Keep small_head small_head ByteArray ABlob byte_array byte_blob
 array_kept = record {
   types = record { to = array_blob };
   old = (tt, ((omega arith, omega arith), tt, ((omega arith, omega arith), tt, tt)), tt);
@@ -64,7 +64,7 @@ no_char (Value (part.Many n) inner others) h e = h.0
 no_char (Value (part.Record n) inner others) h e = h.0
 no_char (Value (part.Tag i) inner others) h e = h.0
 
-pub surrogate_lost : (w : Values) → Keep small_head ANat32 AChar surrogate w → ⊥
+pub surrogate_lost : (w : Values) → Keep small_head small_head ANat32 AChar surrogate w → ⊥
 surrogate_lost w k = no_char w k.new k.same
 
 -- ---- reading

@@ -10,7 +10,7 @@ use Rattle.mo_types.specs.declared.wire.Entry.{Entry}
 use Rattle.mo_types.specs.declared.wire.Ref.{Ref}
 use Rattle.mo_types.specs.Values.{Values, Nil, Value}
 use Rattle.mo_types.specs.Code.{Variable}
-use Rattle.mo_types.specs.Calls.{Call, opened}
+use Rattle.mo_types.specs.Calls.{CallTable, Answered, no_calls, opened, set_state}
 
 -- types that show their heads
 pub data Small : Type 0 where
@@ -138,11 +138,15 @@ saved_message = 0x44 ∷ 0x49 ∷ 0x44 ∷ 0x4c ∷ 0x01 ∷ 0x6c ∷ 0x02 ∷ 1
 abbrev pub saved_memory : List ℕ
 saved_memory = 1 ∷ 0 ∷ 0 ∷ 0 ∷ 17 ∷ 0 ∷ 0 ∷ 0 ∷ 0 ∷ 0 ∷ 0 ∷ 0 ∷ (saved_message ++ 9 ∷ 9 ∷ [])
 
--- two open calls: of the activation 3, and of 4, which resumes what waits on the first
-abbrev pub two_calls : List (Call ℕ ℕ)
-two_calls = opened (opened [] 3 0 None) 4 0 (Some 0)
+-- two open calls, of the incoming calls 3 and 4, in a table that begins at 7
+abbrev pub two_calls : CallTable ℕ ℕ
+two_calls = opened (opened (no_calls 7) 3 0 None) 4 0 None
 
--- so many open calls of the activation 3
-abbrev pub open_calls : ℕ → List (Call ℕ ℕ)
-open_calls zero = []
+-- the first of them is answered, and a call of its owner resumes its future
+abbrev pub resuming_calls : CallTable ℕ ℕ
+resuming_calls = opened (set_state two_calls 7 (Answered (Some 9))) 3 0 (Some 7)
+
+-- so many open calls of the incoming call 3
+abbrev pub open_calls : ℕ → CallTable ℕ ℕ
+open_calls zero = no_calls 7
 open_calls (suc n) = opened (open_calls n) 3 0 None

@@ -1,16 +1,16 @@
 //! Small examples of the definitions of types, computed by the checker.
-ghost use Rattle.std.specs.Prelude.{◌≡◌, ◌<◌, ◌≤◌, ℕ, List, [], ◌∷◌, Some, slice_get};
+ghost use Rattle.std.specs.Prelude.{◌≡◌, ◌<◌, ◌≤◌, ℕ, List, [], ◌∷◌, Option, None, Some};
 ghost use Rattle.mo_types.specs.declared.wire.Plain.TheVariants as plain;
 ghost use Rattle.mo_types.specs.declared.wire.Ref.TheVariants.{Just, Of};
 ghost use Rattle.mo_types.specs.declared.wire.Wire.TheVariants.{Func, Record, Simple, Variant, Vec};
-ghost use Rattle.mo_types.specs.Calls.{Answered, HasRoom, IsOpen, Lost, OwnsOpen, open_count, set_state, state_of};
+ghost use Rattle.mo_types.specs.Calls.{Answered, CallTable, HasRoom, IsOpen, Lost, OwnsOpen, call_at, next_number, open_count, opened, set_state, state_of};
 ghost use Rattle.mo_types.specs.Code.{Keep, Reads, StableBytes};
 ghost use Rattle.mo_types.specs.Form.{form};
 ghost use Rattle.mo_types.specs.Sub.{IsSubtype};
 ghost use Rattle.mo_types.specs.Values.{Values};
 ghost use Rattle.mo_types.specs.Wire.{wire};
 ghost use Rattle.mo_subtype.specs.Certificate.{Fails};
-ghost use Rattle.type_tests.specs.Examples.{ABlob, AChar, ANat, ANat32, AText, AUnit, AnAny, AnInt, Asked, ByteArray, Inner, IntCell, Loop, Narrow, NatCell, Outcome, Pair, ParameterT, ParameterU, Single, Success, Twice, Wide, byte_array, byte_blob, entry, forms, message_of_seven, open_calls, saved_memory, seven, small_head, surrogate, surrogate_char, two_calls, values, variable_ok, variable_x};
+ghost use Rattle.type_tests.specs.Examples.{ABlob, AChar, ANat, ANat32, AText, AUnit, AnAny, AnInt, Asked, ByteArray, Inner, IntCell, Loop, Narrow, NatCell, Outcome, Pair, ParameterT, ParameterU, Single, Success, Twice, Wide, byte_array, byte_blob, entry, forms, message_of_seven, open_calls, resuming_calls, saved_memory, seven, small_head, surrogate, surrogate_char, two_calls, values, variable_ok, variable_x};
 
 /// `type A = ?A` and `type B = ?(?B)` are subtypes of each other.
 #[tactic(auto, using(crate::proofs::Examples::loop_below, crate::proofs::Examples::loop_above))]
@@ -66,8 +66,8 @@ pub fn candid_values_of_values()
 /// An array of bytes is kept as a Blob, and the number of no character as no Char.
 #[tactic(auto, using(crate::proofs::Messages::array_kept, crate::proofs::Messages::surrogate_lost))]
 pub fn kept_values_have_their_types()
-    ensures blob { Keep small_head ByteArray ABlob byte_array byte_blob }
-    ensures surrogate { (w : Values) → Keep small_head ANat32 AChar surrogate w → ⊥ }
+    ensures blob { Keep small_head small_head ByteArray ABlob byte_array byte_blob }
+    ensures surrogate { (w : Values) → Keep small_head small_head ANat32 AChar surrogate w → ⊥ }
 {}
 
 /// A number is read also where it is padded. No message is one of such a character, or begins with another byte.
@@ -87,18 +87,32 @@ pub fn variables_are_saved_by_number()
 /// Calls count while they are open.
 pub fn calls_count_while_they_are_open()
     ensures both { open_count two_calls ≡ 2 }
-    ensures answered { open_count (set_state two_calls 0 (Answered (Some 9))) ≡ 1 }
-    ensures kept { state_of (slice_get (set_state two_calls 0 (Answered (Some 9))) 0) ≡ Some (Answered (Some 9)) }
-    ensures lost { open_count (set_state two_calls 1 Lost) ≡ 1 }
-    ensures other { IsOpen (set_state two_calls 1 Lost) 0 }
+    ensures answered { open_count (set_state two_calls 7 (Answered (Some 9))) ≡ 1 }
+    ensures kept { state_of (call_at (set_state two_calls 7 (Answered (Some 9))) 7) ≡ Some (Answered (Some 9)) }
+    ensures lost { open_count (set_state two_calls 8 Lost) ≡ 1 }
+    ensures other { IsOpen (set_state two_calls 8 Lost) 7 }
+    ensures unknown { set_state two_calls 0 Lost ≡ two_calls }
+    ensures resuming { open_count resuming_calls ≡ 2 }
+{}
+
+/// Calls have the numbers from the table's first one on, whatever that is.
+#[tactic(auto, using(crate::proofs::Examples::next_is_open))]
+pub fn calls_are_numbered_from_the_first()
+    ensures first { IsOpen two_calls 7 }
+    ensures second { IsOpen two_calls 8 }
+    ensures before { call_at two_calls 6 ≡ None }
+    ensures behind { call_at two_calls 9 ≡ None }
+    ensures resuming { IsOpen resuming_calls 9 }
+    ensures next { (table : CallTable ℕ ℕ) (owner results : ℕ) (resumes : Option ℕ) → IsOpen (opened table owner results resumes) (next_number table) }
 {}
 
 /// An owner has an open call until it is answered or lost.
-#[tactic(auto, using(crate::proofs::Examples::first_owner, crate::proofs::Examples::answered_owner, crate::proofs::Examples::second_owner, crate::proofs::Examples::no_owner))]
+#[tactic(auto, using(crate::proofs::Examples::first_owner, crate::proofs::Examples::answered_owner, crate::proofs::Examples::second_owner, crate::proofs::Examples::resuming_owner, crate::proofs::Examples::no_owner))]
 pub fn calls_have_owners()
     ensures own { OwnsOpen two_calls 3 }
-    ensures answered { OwnsOpen (set_state two_calls 0 (Answered (Some 9))) 3 → ⊥ }
-    ensures others { OwnsOpen (set_state two_calls 0 Lost) 4 }
+    ensures answered { OwnsOpen (set_state two_calls 7 (Answered (Some 9))) 3 → ⊥ }
+    ensures others { OwnsOpen (set_state two_calls 7 Lost) 4 }
+    ensures resuming { OwnsOpen resuming_calls 3 }
     ensures nobody { OwnsOpen two_calls 5 → ⊥ }
 {}
 
