@@ -5,7 +5,8 @@ use Rattle.std.specs.Str.{bytes_eq}
 use Rattle.std.specs.Map.{lookup, set_value}
 use Rattle.std.proofs.lemmas.Slice.Eq.{bytes_eq-Decides}
 use Rattle.indexmap.specs.IndexMap.{insert_entry}
-use Rattle.mo_name_table.specs.Places.{later, last_place, places_before, Kept}
+use Rattle.mo_syntax.specs.declared.name.Name.{Name}
+use Rattle.mo_name_table.specs.Places.{texts, later, last_place, places_before, Kept}
 
 same : (x y : List ℕ) → bytes_eq x y ≡ true → x ≡ y
 same x y h = (bytes_eq-Decides x y).0 h
@@ -184,14 +185,19 @@ hid old hidden left names x None uncovered n kept e v m u =
     let no : false ≡ true = v.1 some in
     cc
 
-pub at_end : (names longer : List (List ℕ)) (x z : List ℕ) (n : ℕ) → longer ≡ names ++ x ∷ [] → n ≡ length names → z ≡ get_or longer n z → z ≡ x
-at_end names longer x z n e m g = g ∙ (ap (λ l. get_or l n z) e ∙ (ap (λ k. get_or (names ++ x ∷ []) k z) m ∙ here names)) where
-  here : (ys : List (List ℕ)) → get_or (ys ++ x ∷ []) (length ys) z ≡ x
+pub at_end : {A : Type 0} (names longer : List A) (x z : A) (n : ℕ) → longer ≡ names ++ x ∷ [] → n ≡ length names → z ≡ get_or longer n z → z ≡ x
+at_end {A} names longer x z n e m g = g ∙ (ap (λ l. get_or l n z) e ∙ (ap (λ k. get_or (names ++ x ∷ []) k z) m ∙ here names)) where
+  here : (ys : List A) → get_or (ys ++ x ∷ []) (length ys) z ≡ x
   here [] = refl
   here (y ∷ ys) = here ys
 
 pub found : (place : Option ℕ) (names seen : List (List ℕ)) (x : List ℕ) → place ≡ last_place names x → names ≡ seen → IfSome place (λ p. p < length seen)
 found place names seen x e f = subst (λ (o : Option ℕ). IfSome o (λ p. p < length seen)) (sym e) (subst (λ (z : List (List ℕ)). IfSome (last_place names x) (λ p. p < length z)) f (within names x))
+
+-- the texts of names, of which one is added
+pub texts_more : (names : List Name) (x : Name) → texts (names ++ x ∷ []) ≡ texts names ++ x.bytes ∷ []
+texts_more [] x = refl
+texts_more (y ∷ ys) x = ap (λ z. y.bytes ∷ z) (texts_more ys x)
 
 -- there is room for the place of a name that stands last
 pub roomy : (r : Option (Option ℕ)) (names front : List (List ℕ)) (x : List ℕ) → unwrap_or r None ≡ last_place names x → names ≡ front ++ x ∷ [] → IsSome r

@@ -1,8 +1,13 @@
 -- Where the names of a list stand.
-use Rattle.std.specs.Prelude.{◌≡◌, ℕ, suc, Bool, List, [], ◌∷◌, ◌++◌, Option, Some, None, cond, unwrap_or}
+use Rattle.std.specs.Prelude.{◌≡◌, ℕ, suc, Bool, List, [], ◌∷◌, ◌++◌, Option, Some, None, cond, unwrap_or, map}
 use Rattle.std.specs.Global.{Vec}
 use Rattle.std.specs.Str.{bytes_eq}
+use Rattle.mo_syntax.specs.declared.name.Name.{Name}
 use Rattle.indexmap.specs.IndexMap.{IndexMap, get_by}
+
+-- the names without their places in the source
+abbrev pub texts : List Name → List (List ℕ)
+texts names = map (λ x. x.bytes) names
 
 -- a place behind the head of a list, or else that of the head
 abbrev pub later : Option ℕ → Bool → Option ℕ

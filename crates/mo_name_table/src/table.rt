@@ -3,7 +3,7 @@ ghost use Rattle.std.specs.Prelude.{◌≡◌, ◌++◌, ◌∷◌, ◌-◌, [],
 ghost use Rattle.std.specs.List.{list_any};
 ghost use Rattle.std.specs.Str.{bytes_eq};
 ghost use Rattle.indexmap.specs.IndexMap.{get_by};
-ghost use Rattle.mo_name_table.specs.Places.{last_place, place_at};
+ghost use Rattle.mo_name_table.specs.Places.{last_place, place_at, texts};
 
 use indexmap::IndexMap;
 use mo_num::Memory;
@@ -24,18 +24,18 @@ pub struct NameTable {
 
 impl Model for NameTable {
     ghost use Rattle.std.specs.Prelude.{List, ℕ};
-    ghost use Rattle.mo_name_table.specs.Places.{Kept, place_at};
+    ghost use Rattle.mo_name_table.specs.Places.{Kept, place_at, texts};
 
     ghost Value = { List (List ℕ) };
 
-    ghost view = { λ t. t.names.items };
+    ghost view = { λ t. texts t.names.items };
 
-    ghost invariant = { λ t. Kept (place_at t.places) t.hidden.items t.names.items };
+    ghost invariant = { λ t. Kept (place_at t.places) t.hidden.items (texts t.names.items) };
 }
 
 /// The place that is kept for a name.
 fn place_of(places: &IndexMap<Vec<u8>, Option<usize>>, name: &Name) -> Option<usize>
-    ensures { result ≡ place_at places.now name.now }
+    ensures { result ≡ place_at places.now name.now.bytes }
 {
     match places.get(name.as_slice()) {
         Some(place) => *place,
@@ -50,7 +50,7 @@ fn make_room(
     name: &Name,
 ) -> Result<(), Memory>
     ensures stay { (x : List ℕ) → place_at places.new x ≡ place_at places.old x }
-    ensures room { OnOk result (IsSome (get_by (λ k. bytes_eq name.now k.items) places.new)) }
+    ensures room { OnOk result (IsSome (get_by (λ k. bytes_eq name.now.bytes k.items) places.new)) }
 {
     if places.contains_key(name.as_slice()) {
         return Ok(());
@@ -62,8 +62,8 @@ fn make_room(
 
 /// Keeps a place for a name for which there is room.
 fn keep(places: &mut IndexMap<Vec<u8>, Option<usize>>, name: &Name, place: Option<usize>)
-    requires { IsSome (get_by (λ k. bytes_eq name.now k.items) places.old) }
-    ensures { (x : List ℕ) → place_at places.new x ≡ cond (bytes_eq name.now x) place (place_at places.old x) }
+    requires { IsSome (get_by (λ k. bytes_eq name.now.bytes k.items) places.old) }
+    ensures { (x : List ℕ) → place_at places.new x ≡ cond (bytes_eq name.now.bytes x) place (place_at places.old x) }
 {
     if let Some(kept) = places.get_mut(name.as_slice()) {
         *kept = place;
@@ -107,7 +107,7 @@ impl NameTable {
 
     /// The names in their order.
     pub fn as_slice(&self) -> &[Name]
-        ensures { result.now ≡ self.now }
+        ensures { texts result.now ≡ self.now }
     {
         self.names.as_slice()
     }
@@ -121,7 +121,7 @@ impl NameTable {
 
     /// The last place at which the name stands, counted from 0.
     pub fn find(&self, name: &Name) -> Option<usize>
-        ensures last { result ≡ last_place self.now name.now }
+        ensures last { result ≡ last_place self.now name.now.bytes }
         ensures within { IfSome result (λ place. place < length self.now) }
     {
         place_of(&self.places, name)
@@ -129,14 +129,14 @@ impl NameTable {
 
     /// Whether the name is one of these.
     pub fn contains(&self, name: &Name) -> bool
-        ensures { result ≡ list_any (λ y. bytes_eq name.now y) self.now }
+        ensures { result ≡ list_any (λ y. bytes_eq name.now.bytes y) self.now }
     {
         self.find(name).is_some()
     }
 
     /// Adds a name at the end. After an error the names are as before.
     pub fn push(&mut self, name: Name) -> Result<(), Memory>
-        ensures ok { OnOk result (self.new ≡ self.old ++ name ∷ []) }
+        ensures ok { OnOk result (self.new ≡ self.old ++ name.bytes ∷ []) }
         ensures err { OnErr result (self.new ≡ self.old) }
     {
         let place = self.names.len();

@@ -1,3 +1,1 @@
 pub mod Scoping
-pub mod Breaking
-pub mod Distinct

@@ -1,10 +1,9 @@
-pub mod Judged
-pub mod Rules
 pub mod Scopes
-pub mod TypeRules
-pub mod PatternRules
-pub mod ExpressionRules
-pub mod PartRules
-pub mod ProgramRules
+pub mod Findings
+pub mod TypeNames
+pub mod PatternNames
+pub mod ExpressionNames
+pub mod ProgramNames
+pub mod PartNames
 pub mod Order
 pub mod Bound

@@ -4,6 +4,8 @@
 -- where it uses a `func` or `class` of the list, each name that occurs in the body of that one, and so on.
 use Rattle.std.specs.Prelude.{◌≡◌, ℕ, not, List, [], ◌∷◌, ◌++◌, Option, Some, None, map, IsTrue}
 use Rattle.std.specs.List.{flat_map, filter}
+use Rattle.mo_syntax.specs.declared.name.Name.{Name}
+use Rattle.mo_syntax.specs.declared.place.Place.{Place}
 use Rattle.mo_syntax.specs.declared.patterns.Pattern.{Pattern}
 use Rattle.mo_syntax.specs.declared.patterns.Parameters.{Parameters}
 use Rattle.mo_syntax.specs.declared.expressions.Expression.{Expression, Expression-F, fold-Expression}
@@ -12,33 +14,44 @@ use Rattle.mo_syntax.specs.declared.declarations.Declaration.TheOpen as F
 use Rattle.mo_syntax.specs.declared.program.Tree.{Tree}
 use Rattle.mo_syntax.specs.declared.program.ActorField.{ActorField}
 use Rattle.mo_syntax.specs.declared.program.ActorField.TheVariants as field
-use Rattle.mo_names.specs.declared.rule.Rule.TheVariants as rule
-use Rattle.mo_names.specs.Rules.{Names, contains}
-use Rattle.mo_names.specs.PatternRules.{pattern_binder, parameters_binder}
+use Rattle.mo_name_table.specs.Places.{texts}
+use Rattle.mo_names.specs.Findings.{Names, Texts, contains}
+use Rattle.mo_names.specs.PatternNames.{in_pattern, in_parameters}
+
+-- it is one of these
+abbrev pub Among : {A : Type 0} → A → List A → Type 0
+Among {A} x xs = (before : List A) × (after : List A) × (xs ≡ before ++ x ∷ after)
 
 -- ---- lists of declarations
 
 -- a declaration of a list: the `let`, `var` and `object` names that it defines, the `func` or `class` that it is, and the names that occur in it
 pub record Step : Type 0 where
-  pub defines : Names
-  pub functions : Names
+  pub defines : Texts
+  pub functions : Texts
   pub occurs : Names
 
 -- the names that are used where these occur
-pub data Uses (steps : List Step) (names : Names) : List ℕ → Type 0 where
+pub data Uses (steps : List Step) (names : Texts) : List ℕ → Type 0 where
   occurring : (x : List ℕ) → IsTrue (contains names x) → Uses steps names x
   through : (before after : List Step) (step : Step) (f x : List ℕ) → steps ≡ before ++ step ∷ after → Uses steps names f
-      → IsTrue (contains step.functions f) → IsTrue (contains step.occurs x) → Uses steps names x
+      → IsTrue (contains step.functions f) → IsTrue (contains (texts step.occurs) x) → Uses steps names x
 
--- No declaration but a `func` or `class` uses what it defines itself or what is defined after it.
-abbrev pub InOrder : List Step → Type 0
-InOrder steps = (before after : List Step) (step : Step) (x : List ℕ) → steps ≡ before ++ step ∷ after → step.functions ≡ []
-    → IsTrue (contains (flat_map (λ s. s.defines) (step ∷ after)) x) → Uses steps step.occurs x → ⊥
+-- The name occurs in a declaration but a `func` or `class`, and what this one defines itself, or what is defined after it, is used by it.
+pub record IsEarly (steps : List Step) (name : Name) : Type 0 where
+  pub before : List Step
+  pub after : List Step
+  pub step : Step
+  pub late : List ℕ
+  pub list : steps ≡ before ++ step ∷ after
+  pub evaluated : step.functions ≡ []
+  pub occurs : Among name step.occurs
+  pub defined : IsTrue (contains (flat_map (λ s. s.defines) (step ∷ after)) late)
+  pub used : Uses steps (name.bytes ∷ []) late
 
 -- ---- the names that occur in a tree, and the lists of declarations in it
 
-abbrev pub without : Names → Names → Names
-without bound names = filter (λ x. not (contains bound x)) names
+abbrev pub without : Texts → Names → Names
+without bound names = filter (λ x. not (contains bound x.bytes)) names
 
 -- the names of values that occur in a part and aren't bound in it, and the lists of declarations in it
 pub record Found : Type 0 where
@@ -63,10 +76,10 @@ optional None = nothing
 optional (Some a) = a
 
 -- in the scope of these names
-abbrev pub hiding : Names → Found → Found
+abbrev pub hiding : Texts → Found → Found
 hiding names a = record { free = without names a.free; lists = a.lists }
 
-abbrev pub names_of_steps : List Step → Names
+abbrev pub names_of_steps : List Step → Texts
 names_of_steps steps = flat_map (λ s. s.defines ++ s.functions) steps
 
 abbrev pub list_of : List FoundStep → Found
@@ -75,25 +88,25 @@ list_of found = record {
   lists = map (λ d. d.step) found ∷ flat_map (λ d. d.lists) found;
 }
 
-abbrev pub pattern_names : Pattern → Names
-pattern_names p = (pattern_binder rule.Twice p).names
+abbrev pub pattern_names : Pattern → Texts
+pattern_names p = texts (in_pattern p).names
 
-abbrev pub parameter_values : Parameters → Names
-parameter_values parameters = (parameters_binder rule.Twice parameters).names
+abbrev pub parameter_values : Parameters → Texts
+parameter_values parameters = texts (in_parameters parameters).names
 
-abbrev pub defining : Names → Found → FoundStep
+abbrev pub defining : Texts → Found → FoundStep
 defining names a = record { step = record { defines = names; functions = []; occurs = a.free }; lists = a.lists }
 
-abbrev pub function_of : List ℕ → Found → FoundStep
-function_of x a = record { step = record { defines = []; functions = x ∷ []; occurs = a.free }; lists = a.lists }
+abbrev pub function_of : Name → Found → FoundStep
+function_of x a = record { step = record { defines = []; functions = x.bytes ∷ []; occurs = a.free }; lists = a.lists }
 
 abbrev pub declaration_step : Declaration-F FoundStep Found FoundStep Found Found → FoundStep
 declaration_step (F.Let p a) = defining (pattern_names p) a
-declaration_step (F.Var x kind a) = defining (x ∷ []) a
+declaration_step (F.Var x kind a) = defining (x.bytes ∷ []) a
 declaration_step (F.Func x generics parameters result equal_sign body) = function_of x (hiding (parameter_values parameters) body)
 declaration_step (F.TypeAlias x names kind) = defining [] nothing
 declaration_step (F.Class x generics parameters fields last) = function_of x (hiding (parameter_values parameters) (list_of fields))
-declaration_step (F.NamedObject x fields last) = defining (x ∷ []) (list_of fields)
+declaration_step (F.NamedObject x fields last) = defining (x.bytes ∷ []) (list_of fields)
 declaration_step (F.Evaluate a) = defining [] a
 
 abbrev pub expression_step : Expression-F FoundStep Found FoundStep Found Found → Found
@@ -143,7 +156,7 @@ abbrev pub case_step : F.Case-F FoundStep Found FoundStep Found Found → Found
 case_step x = hiding (pattern_names x.pattern) x.body
 
 -- A field without a value has that of its name.
-abbrev pub field_value : List ℕ → Option Found → Found
+abbrev pub field_value : Name → Option Found → Found
 field_value x None = record { free = x ∷ []; lists = [] }
 field_value x (Some a) = a
 
@@ -160,15 +173,19 @@ found = fold-Expression FoundStep Found FoundStep Found Found declaration_step e
 
 -- A public function is used as a shared function, and then adds no uses. A system function isn't used.
 abbrev pub field_step : ActorField → FoundStep
-field_step (field.Public x) = record { step = record { defines = []; functions = x.name ∷ []; occurs = [] }; lists = (found x.body).lists }
+field_step (field.Public x) = record { step = record { defines = []; functions = x.name.bytes ∷ []; occurs = [] }; lists = (found x.body).lists }
 field_step (field.System x equal_sign body) = record { step = record { defines = []; functions = []; occurs = [] }; lists = (found body).lists }
 field_step (field.Declared private x) = found_step x
-field_step (field.Stable private x kind a) = defining (x ∷ []) (found a)
+field_step (field.Stable private x kind a) = defining (x.bytes ∷ []) (found a)
 
-abbrev pub AllInOrder : List (List Step) → Type 0
-AllInOrder [] = Unit {0}
-AllInOrder (steps ∷ more) = InOrder steps × AllInOrder more
+-- the lists of declarations of a program
+abbrev pub lists_in : Tree → List (List Step)
+lists_in tree = (list_of (map field_step tree.actor.fields)).lists
 
--- No value of the program is used before it is defined.
-abbrev pub Ordered : Tree → Type 0
-Ordered tree = AllInOrder ((list_of (map field_step tree.actor.fields)).lists)
+-- A value of a list is used before it is defined, by the name that stands here.
+pub record Misplaced (lists : List (List Step)) (place : Place) : Type 0 where
+  pub steps : List Step
+  pub name : Name
+  pub listed : Among steps lists
+  pub early : IsEarly steps name
+  pub here : name.place ≡ place

@@ -1,9 +1,10 @@
 -- What names mean (Motoko language manual, "Identifiers", "Imports", "Types"). Values, types and labels of loops are separate name spaces.
-use Rattle.std.specs.Prelude.{ℕ, Bool, List, [], ◌∷◌, ◌++◌, codes, Option, Some, None, option_map, slice_index_or}
-use Rattle.std.specs.Option.{is_some, option_or, option_and_then}
+use Rattle.std.specs.Prelude.{ℕ, List, [], ◌∷◌, ◌++◌, codes, Option, None, option_map, slice_index_or}
+use Rattle.std.specs.Option.{option_or, option_and_then}
 use Rattle.std.specs.Str.{bytes_eq}
 use Rattle.std.specs.Map.{lookup}
-use Rattle.mo_name_table.specs.Places.{last_place}
+use Rattle.mo_syntax.specs.declared.name.Name.{Name}
+use Rattle.mo_name_table.specs.Places.{last_place, texts}
 use Rattle.mo_names.specs.declared.scope.Scope.{Scope}
 use Rattle.mo_names.specs.declared.library.Library.{Library}
 use Rattle.mo_names.specs.declared.library.Library.TheVariants as library
@@ -13,7 +14,6 @@ use Rattle.mo_names.specs.declared.library.BuiltInType.{BuiltInType}
 use Rattle.mo_names.specs.declared.library.BuiltInType.TheVariants as built_in
 use Rattle.mo_names.specs.declared.meaning.Meaning.{Meaning}
 use Rattle.mo_names.specs.declared.meaning.Meaning.TheVariants as meaning
-use Rattle.mo_names.specs.Rules.{Names}
 
 -- what a table has under a name
 abbrev pub named : {A : Type 0} → List (List ℕ × A) → List ℕ → Option A
@@ -48,7 +48,7 @@ members_of library.Array =
 members_of library.Principal = (codes "fromActor", member.PrincipalFromActor) ∷ []
 
 -- what a system function may be called
-abbrev pub system_functions : Names
+abbrev pub system_functions : List (List ℕ)
 system_functions = codes "preupgrade" ∷ codes "postupgrade" ∷ []
 
 -- ---- what names mean in a scope
@@ -73,25 +73,13 @@ type_meaning s x = option_or (option_map meaning.Type (last_place s.types x)) (o
 abbrev pub loop_meaning : Scope → List ℕ → Option Meaning
 loop_meaning s x = option_map meaning.Loop (last_place s.loops x)
 
-abbrev pub value_known : Scope → List ℕ → Bool
-value_known s x = is_some (value_meaning s x)
-
-abbrev pub member_known : Scope → List ℕ → List ℕ → Bool
-member_known s m x = is_some (member_meaning s m x)
-
-abbrev pub type_known : Scope → List ℕ → Bool
-type_known s x = is_some (type_meaning s x)
-
-abbrev pub loop_known : Scope → List ℕ → Bool
-loop_known s x = is_some (loop_meaning s x)
-
 -- ---- larger scopes
 
-abbrev pub with_values : Names → Scope → Scope
-with_values names s = record s { values = s.values ++ names }
+abbrev pub with_values : List Name → Scope → Scope
+with_values names s = record s { values = s.values ++ texts names }
 
-abbrev pub with_types : Names → Scope → Scope
-with_types names s = record s { types = s.types ++ names }
+abbrev pub with_types : List Name → Scope → Scope
+with_types names s = record s { types = s.types ++ texts names }
 
 abbrev pub with_loop : List ℕ → Scope → Scope
 with_loop x s = record s { loops = s.loops ++ x ∷ [] }

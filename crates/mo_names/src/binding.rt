@@ -1,23 +1,44 @@
 //! The names that patterns and declarations bind.
-ghost use Rattle.std.specs.Prelude.{◌≡◌, ◌++◌, ◌∷◌, [], OnOk, map};
-ghost use Rattle.mo_names.specs.PatternRules.{pattern_binder, pattern_field_binder, parameters_binder, bound_names};
-ghost use Rattle.mo_names.specs.ExpressionRules.{declared, declared_member, values_of, types_of, member_values, member_types, public_names};
-ghost use Rattle.mo_names.specs.ProgramRules.{context_binder, prefix_binder};
+ghost use Rattle.std.specs.Prelude.{◌≡◌, ◌++◌, ◌∷◌, [], OnOk, IfOk, map};
+ghost use Rattle.mo_names.specs.PatternNames.{in_pattern, in_pattern_field, in_parameters, bound_names};
+ghost use Rattle.mo_names.specs.ExpressionNames.{in_declaration, in_member, values_of, types_of, member_values, member_types, public_names};
 
 use crate::names::push_copy;
 use crate::scope::Names;
 use crate::walk::Walk;
 use mo_num::Memory;
 use mo_syntax::{
-    Context, Declaration, DeclarationField, Node, Parameters, Pattern, PatternField, SharedPrefix,
-    Visibility,
+    Declaration, DeclarationField, Node, Parameters, Pattern, PatternField, Visibility,
 };
+use std::alloc::Global;
+
+/// The names that a pattern binds, in the order of the source.
+pub fn names_in_pattern(alloc: Global, p: &Pattern) -> Result<Names, Memory>
+    ensures { IfOk result (λ made. made ≡ (in_pattern p.now).names) }
+{
+    let mut names = Names::new(alloc);
+    (Walk { alloc }).pattern_names(p, &mut names)?;
+    Ok(names)
+}
+
+/// The names that the parameters of a function bind, in the order of the source.
+pub fn names_in_parameters(alloc: Global, parameters: &Parameters) -> Result<Names, Memory>
+    ensures { IfOk result (λ made. made ≡ (in_parameters parameters.now).names) }
+{
+    let mut names = Names::new(alloc);
+    let walk = Walk { alloc };
+    match parameters {
+        Parameters::List(patterns) => walk.names_of_patterns(patterns.as_slice(), &mut names)?,
+        Parameters::Single(name) => push_copy(alloc, &mut names, name)?,
+    }
+    Ok(names)
+}
 
 impl Walk {
     #[cycle(binding)]
-    #[tactic(auto, unfolding(crate::specs::PatternRules::pattern_binder, crate::specs::PatternRules::pattern_field_binder))]
+    #[tactic(auto, unfolding(crate::specs::PatternNames::in_pattern, crate::specs::PatternNames::in_pattern_field))]
     pub(crate) fn pattern_names(self, p: &Pattern, names: &mut Names) -> Result<(), Memory>
-        ensures { OnOk result (names.new ≡ names.old ++ (pattern_binder self.rule p.now).names) }
+        ensures { OnOk result (names.new ≡ names.old ++ (in_pattern p.now).names) }
     {
         match p {
             Pattern::Annotated(p, _) => self.pattern_names(p.get(), names),
@@ -38,7 +59,7 @@ impl Walk {
 
     #[cycle(binding)]
     fn names_of_patterns(self, patterns: &[Node<Pattern>], names: &mut Names) -> Result<(), Memory>
-        ensures { OnOk result (names.new ≡ names.old ++ bound_names (map (pattern_binder self.rule) patterns.now)) }
+        ensures { OnOk result (names.new ≡ names.old ++ bound_names (map in_pattern patterns.now)) }
     {
         for one in patterns {
             self.pattern_names(one.get(), names)?;
@@ -48,7 +69,7 @@ impl Walk {
 
     #[cycle(binding)]
     fn names_of_fields(self, fields: &[Node<PatternField>], names: &mut Names) -> Result<(), Memory>
-        ensures { OnOk result (names.new ≡ names.old ++ bound_names (map (pattern_field_binder self.rule) fields.now)) }
+        ensures { OnOk result (names.new ≡ names.old ++ bound_names (map in_pattern_field fields.now)) }
     {
         for one in fields {
             self.names_of_field(one.get(), names)?;
@@ -57,9 +78,9 @@ impl Walk {
     }
 
     #[cycle(binding)]
-    #[tactic(auto, unfolding(crate::specs::PatternRules::pattern_binder, crate::specs::PatternRules::pattern_field_binder))]
+    #[tactic(auto, unfolding(crate::specs::PatternNames::in_pattern, crate::specs::PatternNames::in_pattern_field))]
     fn names_of_field(self, field: &PatternField, names: &mut Names) -> Result<(), Memory>
-        ensures { OnOk result (names.new ≡ names.old ++ (pattern_field_binder self.rule field.now).names) }
+        ensures { OnOk result (names.new ≡ names.old ++ (in_pattern_field field.now).names) }
     {
         match &field.pattern {
             None => push_copy(self.alloc, names, &field.name),
@@ -67,52 +88,14 @@ impl Walk {
         }
     }
 
-    /// Adds the parameters of a function.
-    pub(crate) fn parameter_values(
-        self,
-        parameters: &Parameters,
-        names: &mut Names,
-    ) -> Result<(), Memory>
-        ensures { OnOk result (names.new ≡ names.old ++ (parameters_binder self.rule parameters.now).names) }
-    {
-        match parameters {
-            Parameters::List(patterns) => self.names_of_patterns(patterns.as_slice(), names),
-            Parameters::Single(name) => push_copy(self.alloc, names, name),
-        }
-    }
-
-    fn context_values(self, context: &Option<Context>, names: &mut Names) -> Result<(), Memory>
-        ensures { OnOk result (names.new ≡ names.old ++ (context_binder self.rule context.now).names) }
-    {
-        match context {
-            None => Ok(()),
-            Some(Context::Parenthesized(p)) => self.pattern_names(p.get(), names),
-            Some(Context::Object(fields, _)) => self.names_of_fields(fields.as_slice(), names),
-        }
-    }
-
-    /// Adds the names of the context of a call.
-    pub(crate) fn prefix_values(
-        self,
-        prefix: &Option<SharedPrefix>,
-        names: &mut Names,
-    ) -> Result<(), Memory>
-        ensures { OnOk result (names.new ≡ names.old ++ (prefix_binder self.rule prefix.now).names) }
-    {
-        match prefix {
-            None => Ok(()),
-            Some(prefix) => self.context_values(&prefix.context, names),
-        }
-    }
-
     /// Adds the values that a declaration binds.
-    #[tactic(auto, unfolding(crate::specs::ExpressionRules::declared, crate::specs::ExpressionRules::expression, crate::specs::ExpressionRules::declared_member, crate::specs::ExpressionRules::case_rule, crate::specs::ExpressionRules::expression_entry))]
+    #[tactic(auto, unfolding(crate::specs::ExpressionNames::in_declaration, crate::specs::ExpressionNames::in_expression, crate::specs::ExpressionNames::in_member, crate::specs::ExpressionNames::in_case, crate::specs::ExpressionNames::in_field))]
     pub(crate) fn declared_values(
         self,
         declaration: &Declaration,
         values: &mut Names,
     ) -> Result<(), Memory>
-        ensures { OnOk result (values.new ≡ values.old ++ (declared self.rule declaration.now).values) }
+        ensures { OnOk result (values.new ≡ values.old ++ (in_declaration declaration.now).values) }
     {
         match declaration {
             Declaration::Let(p, _) => self.pattern_names(p.get(), values),
@@ -126,13 +109,13 @@ impl Walk {
     }
 
     /// Adds the types that a declaration binds.
-    #[tactic(auto, unfolding(crate::specs::ExpressionRules::declared, crate::specs::ExpressionRules::expression, crate::specs::ExpressionRules::declared_member, crate::specs::ExpressionRules::case_rule, crate::specs::ExpressionRules::expression_entry))]
+    #[tactic(auto, unfolding(crate::specs::ExpressionNames::in_declaration, crate::specs::ExpressionNames::in_expression, crate::specs::ExpressionNames::in_member, crate::specs::ExpressionNames::in_case, crate::specs::ExpressionNames::in_field))]
     pub(crate) fn declared_types(
         self,
         declaration: &Declaration,
         types: &mut Names,
     ) -> Result<(), Memory>
-        ensures { OnOk result (types.new ≡ types.old ++ (declared self.rule declaration.now).types) }
+        ensures { OnOk result (types.new ≡ types.old ++ (in_declaration declaration.now).types) }
     {
         match declaration {
             Declaration::Let(_, _) => Ok(()),
@@ -150,7 +133,7 @@ impl Walk {
         declarations: &[Node<Declaration>],
         values: &mut Names,
     ) -> Result<(), Memory>
-        ensures { OnOk result (values.new ≡ values.old ++ values_of (map (declared self.rule) declarations.now)) }
+        ensures { OnOk result (values.new ≡ values.old ++ values_of (map in_declaration declarations.now)) }
     {
         for one in declarations {
             self.declared_values(one.get(), values)?;
@@ -163,7 +146,7 @@ impl Walk {
         declarations: &[Node<Declaration>],
         types: &mut Names,
     ) -> Result<(), Memory>
-        ensures { OnOk result (types.new ≡ types.old ++ types_of (map (declared self.rule) declarations.now)) }
+        ensures { OnOk result (types.new ≡ types.old ++ types_of (map in_declaration declarations.now)) }
     {
         for one in declarations {
             self.declared_types(one.get(), types)?;
@@ -171,23 +154,23 @@ impl Walk {
         Ok(())
     }
 
-    #[tactic(auto, unfolding(crate::specs::ExpressionRules::declared, crate::specs::ExpressionRules::expression, crate::specs::ExpressionRules::declared_member, crate::specs::ExpressionRules::case_rule, crate::specs::ExpressionRules::expression_entry))]
+    #[tactic(auto, unfolding(crate::specs::ExpressionNames::in_declaration, crate::specs::ExpressionNames::in_expression, crate::specs::ExpressionNames::in_member, crate::specs::ExpressionNames::in_case, crate::specs::ExpressionNames::in_field))]
     fn member_value(self, field: &DeclarationField, values: &mut Names) -> Result<(), Memory>
-        ensures { OnOk result (values.new ≡ values.old ++ (declared_member self.rule field.now).values) }
+        ensures { OnOk result (values.new ≡ values.old ++ (in_member field.now).values) }
     {
         self.declared_values(field.declaration.get(), values)
     }
 
-    #[tactic(auto, unfolding(crate::specs::ExpressionRules::declared, crate::specs::ExpressionRules::expression, crate::specs::ExpressionRules::declared_member, crate::specs::ExpressionRules::case_rule, crate::specs::ExpressionRules::expression_entry))]
+    #[tactic(auto, unfolding(crate::specs::ExpressionNames::in_declaration, crate::specs::ExpressionNames::in_expression, crate::specs::ExpressionNames::in_member, crate::specs::ExpressionNames::in_case, crate::specs::ExpressionNames::in_field))]
     fn member_type(self, field: &DeclarationField, types: &mut Names) -> Result<(), Memory>
-        ensures { OnOk result (types.new ≡ types.old ++ (declared_member self.rule field.now).types) }
+        ensures { OnOk result (types.new ≡ types.old ++ (in_member field.now).types) }
     {
         self.declared_types(field.declaration.get(), types)
     }
 
-    #[tactic(auto, unfolding(crate::specs::ExpressionRules::declared, crate::specs::ExpressionRules::expression, crate::specs::ExpressionRules::declared_member, crate::specs::ExpressionRules::case_rule, crate::specs::ExpressionRules::expression_entry))]
+    #[tactic(auto, unfolding(crate::specs::ExpressionNames::in_declaration, crate::specs::ExpressionNames::in_expression, crate::specs::ExpressionNames::in_member, crate::specs::ExpressionNames::in_case, crate::specs::ExpressionNames::in_field))]
     fn public_name(self, field: &DeclarationField, names: &mut Names) -> Result<(), Memory>
-        ensures { OnOk result (names.new ≡ names.old ++ (declared_member self.rule field.now).public) }
+        ensures { OnOk result (names.new ≡ names.old ++ (in_member field.now).public) }
     {
         match &field.visibility {
             None => Ok(()),
@@ -201,7 +184,7 @@ impl Walk {
         fields: &[Node<DeclarationField>],
         values: &mut Names,
     ) -> Result<(), Memory>
-        ensures { OnOk result (values.new ≡ values.old ++ member_values (map (declared_member self.rule) fields.now)) }
+        ensures { OnOk result (values.new ≡ values.old ++ member_values (map in_member fields.now)) }
     {
         for one in fields {
             self.member_value(one.get(), values)?;
@@ -214,7 +197,7 @@ impl Walk {
         fields: &[Node<DeclarationField>],
         types: &mut Names,
     ) -> Result<(), Memory>
-        ensures { OnOk result (types.new ≡ types.old ++ member_types (map (declared_member self.rule) fields.now)) }
+        ensures { OnOk result (types.new ≡ types.old ++ member_types (map in_member fields.now)) }
     {
         for one in fields {
             self.member_type(one.get(), types)?;
@@ -227,7 +210,7 @@ impl Walk {
         fields: &[Node<DeclarationField>],
         names: &mut Names,
     ) -> Result<(), Memory>
-        ensures { OnOk result (names.new ≡ names.old ++ public_names (map (declared_member self.rule) fields.now)) }
+        ensures { OnOk result (names.new ≡ names.old ++ public_names (map in_member fields.now)) }
     {
         for one in fields {
             self.public_name(one.get(), names)?;

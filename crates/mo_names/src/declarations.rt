@@ -1,18 +1,17 @@
 //! The layers of declarations: each is walked over the walk of the parts in it.
-ghost use Rattle.std.specs.Prelude.{◌≡◌, ◌&&◌, OnOk, map, Bool, Option, None};
-ghost use Rattle.std.specs.List.{list_all};
-ghost use Rattle.mo_names.specs.Judged.{Judged};
-ghost use Rattle.mo_names.specs.Rules.{identifier};
-ghost use Rattle.mo_names.specs.PatternRules.{pattern_binder, whole};
-ghost use Rattle.mo_names.specs.PartRules.{Walks};
-ghost use Rattle.mo_names.specs.ExpressionRules.{expression, declared, declared_member, case_rule, expression_entry, each_declared, each_member, annotation, function, object, alias};
+ghost use Rattle.std.specs.Prelude.{◌≡◌, ◌++◌, OnOk, map, Option, None};
+ghost use Rattle.mo_names.specs.Findings.{identifier};
+ghost use Rattle.mo_names.specs.PatternNames.{in_pattern, whole};
+ghost use Rattle.mo_names.specs.PartNames.{Walks};
+ghost use Rattle.mo_names.specs.ExpressionNames.{in_expression, in_declaration, in_member, each_declared, each_member, annotation, function, object, alias};
 
+use crate::finding::Findings;
 use crate::layers::Layers;
 use crate::names::identifier;
 use crate::part::Part;
 use crate::scope::{Names, Scope};
 use crate::walk::Walk;
-use crate::wrong::Wrong;
+use mo_num::Memory;
 use mo_syntax::{
     Declaration, DeclarationField, Expression, Items, Name, Node, Parameters, Pattern,
     TypeExpression, TypeParameter,
@@ -27,31 +26,33 @@ impl Walk {
         names: &Option<Items<Name>>,
         kind: &TypeExpression,
         scope: &mut Scope,
-    ) -> Result<(), Wrong>
-        ensures judged { Judged result (identifier self.rule name.now && alias self.rule names.now kind.now scope.old) }
+        found: &mut Findings,
+    ) -> Result<(), Memory>
+        ensures found { OnOk result (found.new ≡ found.old ++ (identifier name.now ++ alias names.now kind.now scope.old)) }
         ensures kept { OnOk result (scope.new ≡ scope.old) }
     {
-        identifier(self.rule, name)?;
+        identifier(name, found)?;
         let types = scope.types.len();
-        self.enter_alias(names, scope)?;
-        self.type_expression(kind, scope)?;
+        self.enter_alias(names, scope, found)?;
+        self.type_expression(kind, scope, found)?;
         scope.forget_types(types);
         Ok(())
     }
 }
 
-impl<F: Fn(Walk, usize, Part<'_>, &mut Scope) -> Result<(), Wrong>> Layers<F> {
+impl<F: Fn(Walk, usize, Part<'_>, &mut Scope, &mut Findings) -> Result<(), Memory>> Layers<F> {
     pub(crate) fn each_declared(
         &self,
         declarations: &[Node<Declaration>],
         scope: &mut Scope,
-    ) -> Result<(), Wrong>
+        found: &mut Findings,
+    ) -> Result<(), Memory>
         requires { Walks self.now.walk self.now.depth (F.pre self.now.parts) (F.post self.now.parts) }
-        ensures judged { Judged result (each_declared (map (declared self.now.walk.rule) declarations.now) scope.old) }
+        ensures found { OnOk result (found.new ≡ found.old ++ (each_declared (map in_declaration declarations.now) scope.old)) }
         ensures kept { OnOk result (scope.new ≡ scope.old) }
     {
         for one in declarations {
-            self.declared_part(one.get(), scope)?;
+            self.declared_part(one.get(), scope, found)?;
         }
         Ok(())
     }
@@ -60,63 +61,76 @@ impl<F: Fn(Walk, usize, Part<'_>, &mut Scope) -> Result<(), Wrong>> Layers<F> {
         &self,
         fields: &[Node<DeclarationField>],
         scope: &mut Scope,
-    ) -> Result<(), Wrong>
+        found: &mut Findings,
+    ) -> Result<(), Memory>
         requires { Walks self.now.walk self.now.depth (F.pre self.now.parts) (F.post self.now.parts) }
-        ensures judged { Judged result (each_member (map (declared_member self.now.walk.rule) fields.now) scope.old) }
+        ensures found { OnOk result (found.new ≡ found.old ++ (each_member (map in_member fields.now) scope.old)) }
         ensures kept { OnOk result (scope.new ≡ scope.old) }
     {
         for one in fields {
-            self.member(one.get(), scope)?;
+            self.member(one.get(), scope, found)?;
         }
         Ok(())
     }
 
-    #[tactic(auto, unfolding(crate::specs::ExpressionRules::declared, crate::specs::ExpressionRules::expression, crate::specs::ExpressionRules::declared_member, crate::specs::ExpressionRules::case_rule, crate::specs::ExpressionRules::expression_entry))]
-    fn member(&self, field: &DeclarationField, scope: &mut Scope) -> Result<(), Wrong>
+    #[tactic(auto, unfolding(crate::specs::ExpressionNames::in_declaration, crate::specs::ExpressionNames::in_expression, crate::specs::ExpressionNames::in_member, crate::specs::ExpressionNames::in_case, crate::specs::ExpressionNames::in_field))]
+    fn member(
+        &self,
+        field: &DeclarationField,
+        scope: &mut Scope,
+        found: &mut Findings,
+    ) -> Result<(), Memory>
         requires { Walks self.now.walk self.now.depth (F.pre self.now.parts) (F.post self.now.parts) }
-        ensures judged { Judged result ((declared_member self.now.walk.rule field.now).meets scope.old) }
+        ensures found { OnOk result (found.new ≡ found.old ++ ((in_member field.now).finds scope.old)) }
         ensures kept { OnOk result (scope.new ≡ scope.old) }
     {
-        self.declared_part(field.declaration.get(), scope)
+        self.declared_part(field.declaration.get(), scope, found)
     }
 
-    #[tactic(auto, unfolding(crate::specs::ExpressionRules::declared, crate::specs::ExpressionRules::expression, crate::specs::ExpressionRules::declared_member, crate::specs::ExpressionRules::case_rule, crate::specs::ExpressionRules::expression_entry))]
+    #[tactic(auto, unfolding(crate::specs::ExpressionNames::in_declaration, crate::specs::ExpressionNames::in_expression, crate::specs::ExpressionNames::in_member, crate::specs::ExpressionNames::in_case, crate::specs::ExpressionNames::in_field))]
     pub(crate) fn declaration(
         &self,
         declaration: &Declaration,
         scope: &mut Scope,
-    ) -> Result<(), Wrong>
+        found: &mut Findings,
+    ) -> Result<(), Memory>
         requires { Walks self.now.walk self.now.depth (F.pre self.now.parts) (F.post self.now.parts) }
-        ensures judged { Judged result ((declared self.now.walk.rule declaration.now).meets scope.old) }
+        ensures found { OnOk result (found.new ≡ found.old ++ ((in_declaration declaration.now).finds scope.old)) }
         ensures kept { OnOk result (scope.new ≡ scope.old) }
     {
         match declaration {
-            Declaration::Let(p, a) => self.let_in(p.get(), a.get(), scope),
-            Declaration::Var(name, kind, a) => self.variable(name, kind, a.get(), scope),
+            Declaration::Let(p, a) => self.let_in(p.get(), a.get(), scope, found),
+            Declaration::Var(name, kind, a) => self.variable(name, kind, a.get(), scope, found),
             Declaration::Func(name, generics, parameters, kind, _, body) => {
-                self.named_function(name, generics, parameters, kind, body.get(), scope)
+                self.named_function(name, generics, parameters, kind, body.get(), scope, found)
             }
             Declaration::TypeAlias(name, names, kind) => {
-                self.walk.type_alias(name, names, kind.get(), scope)
+                self.walk.type_alias(name, names, kind.get(), scope, found)
             }
             Declaration::Class(name, generics, parameters, fields, _) => {
-                self.class(name, generics, parameters, fields.as_slice(), scope)
+                self.class(name, generics, parameters, fields.as_slice(), scope, found)
             }
             Declaration::NamedObject(name, fields, _) => {
-                self.named_object(name, fields.as_slice(), scope)
+                self.named_object(name, fields.as_slice(), scope, found)
             }
-            Declaration::Evaluate(a) => self.part(a.get(), scope),
+            Declaration::Evaluate(a) => self.part(a.get(), scope, found),
         }
     }
 
-    fn let_in(&self, p: &Pattern, a: &Expression, scope: &mut Scope) -> Result<(), Wrong>
+    fn let_in(
+        &self,
+        p: &Pattern,
+        a: &Expression,
+        scope: &mut Scope,
+        found: &mut Findings,
+    ) -> Result<(), Memory>
         requires { Walks self.now.walk self.now.depth (F.pre self.now.parts) (F.post self.now.parts) }
-        ensures judged { Judged result (whole self.now.walk.rule (pattern_binder self.now.walk.rule p.now) scope.old && (expression self.now.walk.rule a.now).meets scope.old) }
+        ensures found { OnOk result (found.new ≡ found.old ++ (whole (in_pattern p.now) scope.old ++ (in_expression a.now).finds scope.old)) }
         ensures kept { OnOk result (scope.new ≡ scope.old) }
     {
         let mut names = Names::new(self.walk.alloc);
-        self.walk.whole_pattern(p, scope, &mut names)?;
-        self.part(a, scope)
+        self.walk.whole_pattern(p, scope, &mut names, found)?;
+        self.part(a, scope, found)
     }
 
     fn variable(
@@ -125,14 +139,15 @@ impl<F: Fn(Walk, usize, Part<'_>, &mut Scope) -> Result<(), Wrong>> Layers<F> {
         kind: &Option<Node<TypeExpression>>,
         a: &Expression,
         scope: &mut Scope,
-    ) -> Result<(), Wrong>
+        found: &mut Findings,
+    ) -> Result<(), Memory>
         requires { Walks self.now.walk self.now.depth (F.pre self.now.parts) (F.post self.now.parts) }
-        ensures judged { Judged result (identifier self.now.walk.rule name.now && (annotation self.now.walk.rule kind.now scope.old && (expression self.now.walk.rule a.now).meets scope.old)) }
+        ensures found { OnOk result (found.new ≡ found.old ++ (identifier name.now ++ (annotation kind.now scope.old ++ (in_expression a.now).finds scope.old))) }
         ensures kept { OnOk result (scope.new ≡ scope.old) }
     {
-        identifier(self.walk.rule, name)?;
-        self.walk.annotation(kind, scope)?;
-        self.part(a, scope)
+        identifier(name, found)?;
+        self.walk.annotation(kind, scope, found)?;
+        self.part(a, scope, found)
     }
 
     fn named_function(
@@ -143,13 +158,14 @@ impl<F: Fn(Walk, usize, Part<'_>, &mut Scope) -> Result<(), Wrong>> Layers<F> {
         kind: &Option<Node<TypeExpression>>,
         body: &Expression,
         scope: &mut Scope,
-    ) -> Result<(), Wrong>
+        found: &mut Findings,
+    ) -> Result<(), Memory>
         requires { Walks self.now.walk self.now.depth (F.pre self.now.parts) (F.post self.now.parts) }
-        ensures judged { Judged result (identifier self.now.walk.rule name.now && function self.now.walk.rule generics.now parameters.now kind.now (expression self.now.walk.rule body.now).meets scope.old) }
+        ensures found { OnOk result (found.new ≡ found.old ++ (identifier name.now ++ function generics.now parameters.now kind.now (in_expression body.now).finds scope.old)) }
         ensures kept { OnOk result (scope.new ≡ scope.old) }
     {
-        identifier(self.walk.rule, name)?;
-        self.function(generics, parameters, kind, body, scope)
+        identifier(name, found)?;
+        self.function(generics, parameters, kind, body, scope, found)
     }
 
     #[tactic(auto, using(crate::proofs::Scoping::seam, crate::proofs::Scoping::seam_twice))]
@@ -160,18 +176,19 @@ impl<F: Fn(Walk, usize, Part<'_>, &mut Scope) -> Result<(), Wrong>> Layers<F> {
         parameters: &Parameters,
         fields: &[Node<DeclarationField>],
         scope: &mut Scope,
-    ) -> Result<(), Wrong>
+        found: &mut Findings,
+    ) -> Result<(), Memory>
         requires { Walks self.now.walk self.now.depth (F.pre self.now.parts) (F.post self.now.parts) }
-        ensures judged { Judged result (identifier self.now.walk.rule name.now && function self.now.walk.rule generics.now parameters.now None (object self.now.walk.rule (map (declared_member self.now.walk.rule) fields.now)) scope.old) }
+        ensures found { OnOk result (found.new ≡ found.old ++ (identifier name.now ++ function generics.now parameters.now None (object (map in_member fields.now)) scope.old)) }
         ensures kept { OnOk result (scope.new ≡ scope.old) }
     {
-        identifier(self.walk.rule, name)?;
+        identifier(name, found)?;
         let values = scope.values.len();
         let types = scope.types.len();
         let loops = scope.hide_loops(self.walk.alloc);
         self.walk
-            .enter_function(generics, parameters, &None, scope)?;
-        self.object(fields, scope)?;
+            .enter_function(generics, parameters, &None, scope, found)?;
+        self.object(fields, scope, found)?;
         scope.leave(values, types, loops);
         Ok(())
     }
@@ -181,12 +198,13 @@ impl<F: Fn(Walk, usize, Part<'_>, &mut Scope) -> Result<(), Wrong>> Layers<F> {
         name: &Name,
         fields: &[Node<DeclarationField>],
         scope: &mut Scope,
-    ) -> Result<(), Wrong>
+        found: &mut Findings,
+    ) -> Result<(), Memory>
         requires { Walks self.now.walk self.now.depth (F.pre self.now.parts) (F.post self.now.parts) }
-        ensures judged { Judged result (identifier self.now.walk.rule name.now && object self.now.walk.rule (map (declared_member self.now.walk.rule) fields.now) scope.old) }
+        ensures found { OnOk result (found.new ≡ found.old ++ (identifier name.now ++ object (map in_member fields.now) scope.old)) }
         ensures kept { OnOk result (scope.new ≡ scope.old) }
     {
-        identifier(self.walk.rule, name)?;
-        self.object(fields, scope)
+        identifier(name, found)?;
+        self.object(fields, scope, found)
     }
 }

@@ -1,23 +1,29 @@
-//! The rules of names in expressions and declarations.
-ghost use Rattle.std.specs.Prelude.{◌≡◌, OnOk};
-ghost use Rattle.mo_names.specs.Judged.{Judged};
-ghost use Rattle.mo_names.specs.ExpressionRules.{expression, declared};
-ghost use Rattle.mo_names.specs.PartRules.{part_rule};
+//! The names in expressions and declarations.
+ghost use Rattle.std.specs.Prelude.{◌≡◌, ◌++◌, OnOk};
+ghost use Rattle.mo_names.specs.ExpressionNames.{in_expression, in_declaration};
+ghost use Rattle.mo_names.specs.PartNames.{in_part};
 
+use crate::finding::Findings;
 use crate::layers::Layers;
 use crate::part::Part;
 use crate::scope::Scope;
 use crate::walk::Walk;
-use crate::wrong::Wrong;
+use mo_num::Memory;
 use mo_syntax::{Declaration, Expression};
 
 // A part of at most so many levels. One of more levels than there are addresses is none that memory holds.
-fn walk_part(walk: Walk, depth: usize, part: Part<'_>, scope: &mut Scope) -> Result<(), Wrong>
-    ensures judged { Judged result (part_rule walk.rule part.entry scope.old) }
+fn walk_part(
+    walk: Walk,
+    depth: usize,
+    part: Part<'_>,
+    scope: &mut Scope,
+    found: &mut Findings,
+) -> Result<(), Memory>
+    ensures found { OnOk result (found.new ≡ found.old ++ in_part part.entry scope.old) }
     ensures kept { OnOk result (scope.new ≡ scope.old) }
 {
     if depth == 0 {
-        return Err(Wrong::Memory);
+        return Err(Memory);
     }
     let layers = Layers {
         walk,
@@ -25,27 +31,39 @@ fn walk_part(walk: Walk, depth: usize, part: Part<'_>, scope: &mut Scope) -> Res
         parts: walk_part,
     };
     match part {
-        Part::Expression(a) => layers.expression(a, scope),
-        Part::Declaration(declaration) => layers.declaration(declaration, scope),
+        Part::Expression(a) => layers.expression(a, scope, found),
+        Part::Declaration(declaration) => layers.declaration(declaration, scope, found),
     }
 }
 
 impl Walk {
-    pub(crate) fn expression(self, a: &Expression, scope: &mut Scope) -> Result<(), Wrong>
-        ensures judged { Judged result ((expression self.rule a.now).meets scope.old) }
+    pub(crate) fn expression(
+        self,
+        a: &Expression,
+        scope: &mut Scope,
+        found: &mut Findings,
+    ) -> Result<(), Memory>
+        ensures found { OnOk result (found.new ≡ found.old ++ (in_expression a.now).finds scope.old) }
         ensures kept { OnOk result (scope.new ≡ scope.old) }
     {
-        walk_part(self, usize::MAX, Part::Expression(a), scope)
+        walk_part(self, usize::MAX, Part::Expression(a), scope, found)
     }
 
     pub(crate) fn declaration(
         self,
         declaration: &Declaration,
         scope: &mut Scope,
-    ) -> Result<(), Wrong>
-        ensures judged { Judged result ((declared self.rule declaration.now).meets scope.old) }
+        found: &mut Findings,
+    ) -> Result<(), Memory>
+        ensures found { OnOk result (found.new ≡ found.old ++ (in_declaration declaration.now).finds scope.old) }
         ensures kept { OnOk result (scope.new ≡ scope.old) }
     {
-        walk_part(self, usize::MAX, Part::Declaration(declaration), scope)
+        walk_part(
+            self,
+            usize::MAX,
+            Part::Declaration(declaration),
+            scope,
+            found,
+        )
     }
 }

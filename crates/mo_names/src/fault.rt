@@ -1,10 +1,15 @@
 //! Why the names of a program are refused.
+ghost use Rattle.std.specs.Prelude.{◌≡◌};
+ghost use Rattle.mo_names.specs.Bound.{fault_of};
+
+use crate::rule::{Breach, Rule};
+use mo_num::Memory;
 use mo_syntax::Place;
 
-/// Why the names of a program are refused, and where. By name, the condition is false there.
+/// Why the names of a program are refused, and where: the condition of this name is false at the name that stands there.
 #[derive(Clone, Copy, Debug, PartialEq, Eq)]
 pub enum NameFault {
-    /// A name has no meaning at the place where it is used.
+    /// A name has no meaning where it is used.
     Unknown(Place),
     /// A name is bound twice in one list, pattern or type.
     Twice(Place),
@@ -15,4 +20,29 @@ pub enum NameFault {
     /// An identifier begins with `__`, or a label is `_`, digits and `_`.
     Reserved(Place),
     Memory,
+}
+
+impl From<Memory> for NameFault {
+    ghost use Rattle.mo_names.specs.declared.fault.NameFault.TheVariants as fault;
+
+    ghost from_gives = { λ _ made. made ≡ fault.Memory };
+
+    fn from(_: Memory) -> Self {
+        NameFault::Memory
+    }
+}
+
+impl Breach {
+    /// The fault that it is.
+    pub fn fault(self) -> NameFault
+        ensures { result ≡ fault_of self }
+    {
+        match self.rule {
+            Rule::Unknown => NameFault::Unknown(self.place),
+            Rule::Twice => NameFault::Twice(self.place),
+            Rule::UsedBeforeDefined => NameFault::UsedBeforeDefined(self.place),
+            Rule::LabelClash => NameFault::LabelClash(self.place),
+            Rule::Reserved => NameFault::Reserved(self.place),
+        }
+    }
 }

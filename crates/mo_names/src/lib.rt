@@ -1,30 +1,31 @@
-//! Names: each has a meaning where it is used, none is bound twice, none is reserved, and no labels clash.
+//! Names: what each means where it is used, and which rules are broken.
 #![tactic(auto)]
 
-mod adding;
 mod binding;
 mod declarations;
 mod entering;
 mod expressions;
 mod fault;
+mod finding;
 mod layers;
 mod library;
 mod meaning;
+mod named;
 mod names;
 mod part;
 mod patterns;
 mod program;
-mod resolving;
 mod rule;
 mod scope;
 mod types;
 mod walk;
-mod wrong;
 
+pub use binding::{names_in_parameters, names_in_pattern};
 pub use fault::NameFault;
-pub use library::{BuiltInType, Library, Member, is_system_function};
+pub use finding::{Finding, Findings};
+pub use library::{BuiltInType, Library, Member};
 pub use meaning::Meaning;
-pub use resolving::check_scopes;
-pub use rule::Rule;
-pub use scope::Scope;
-pub use wrong::Wrong;
+pub use named::Named;
+pub use program::find_names;
+pub use rule::{Breach, Rule};
+pub use scope::Names;

@@ -1,6 +1,6 @@
 //! The modules of the base library with their members, and the names that need no declaration.
 ghost use Rattle.std.specs.Prelude.{◌≡◌, drop};
-ghost use Rattle.mo_names.specs.Rules.{contains};
+ghost use Rattle.mo_names.specs.Findings.{contains};
 ghost use Rattle.mo_names.specs.Scopes.{built_in_types, library_of, members_of, named, system_functions};
 
 /// A module of the base library.
@@ -195,7 +195,7 @@ pub(crate) fn member_of(library: Library, name: &[u8]) -> Option<Member>
 }
 
 /// Whether a system function may have this name.
-pub fn is_system_function(name: &[u8]) -> bool
+pub(crate) fn is_system_function(name: &[u8]) -> bool
     ensures { result ≡ contains system_functions name.now }
 {
     name == b"preupgrade".as_slice() || name == b"postupgrade".as_slice()

@@ -1,18 +1,17 @@
 //! The rules on names and lists of names.
-ghost use Rattle.std.specs.Prelude.{◌≡◌, ◌==◌, length, ◌∷◌, ◌++◌, [], not, Bool, List, ℕ, OnOk, map, IfOk, nat_eq};
-ghost use Rattle.std.specs.List.{list_any};
-ghost use Rattle.indexmap.specs.IndexSet.{insert_key};
+ghost use Rattle.std.specs.Prelude.{◌≡◌, ◌==◌, length, ◌∷◌, ◌++◌, [], not, Bool, Option, List, ℕ, OnOk, IfOk, nat_eq};
+ghost use Rattle.std.specs.List.{list_any, flat_map};
 ghost use Rattle.mo_types.specs.Label.{label_id};
-ghost use Rattle.mo_names.specs.Judged.{Judged};
-ghost use Rattle.mo_names.specs.Rules.{contains, distinct, distinct_numbers, begins_reserved, digits_and_mark, is_position, identifier, label, together, labels, known};
+ghost use Rattle.mo_names.specs.Findings.{contains, begins_reserved, digits_and_mark, is_position, broken_where, identifier, label, behind, together, has_number, with_number, numbered_behind, labels, used, each_identifier, each_label};
 
-use crate::rule::Rule;
+use crate::finding::{Finding, Findings};
+use crate::meaning::Meaning;
+use crate::rule::{Breach, Rule};
 use crate::scope::Names;
-use crate::wrong::{Wrong, judge};
 use indexmap::IndexSet;
 use mo_name_table::NameTable;
 use mo_num::Memory;
-use mo_syntax::{Name, Place};
+use mo_syntax::Name;
 use mo_types::label_id;
 use std::alloc::Global;
 
@@ -47,116 +46,127 @@ fn is_position(name: &[u8]) -> bool
     }
 }
 
-/// The rule on a name.
-pub(crate) fn identifier(rule: Rule, name: &Name) -> Result<(), Wrong>
-    ensures { Judged result (identifier rule name.now) }
+/// Adds that the rule is broken at the name, where it is.
+pub(crate) fn broken_where(
+    is_broken: bool,
+    rule: Rule,
+    name: &Name,
+    found: &mut Findings,
+) -> Result<(), Memory>
+    ensures { OnOk result (found.new ≡ found.old ++ broken_where is_broken rule name.now) }
 {
-    match rule {
-        Rule::Reserved => judge(name.place(), !begins_reserved(name.as_slice())),
-        _ => judge(name.place(), true),
+    if is_broken {
+        found.push(Finding::Breach(Breach {
+            rule,
+            place: name.place(),
+        }))
+    } else {
+        Ok(())
     }
+}
+
+/// The rule on a name.
+pub(crate) fn identifier(name: &Name, found: &mut Findings) -> Result<(), Memory>
+    ensures { OnOk result (found.new ≡ found.old ++ identifier name.now) }
+{
+    broken_where(
+        begins_reserved(name.as_slice()),
+        Rule::Reserved,
+        name,
+        found,
+    )
 }
 
 /// The rule on a label of an object, variant or actor.
-pub(crate) fn label(rule: Rule, name: &Name) -> Result<(), Wrong>
-    ensures { Judged result (label rule name.now) }
+pub(crate) fn label(name: &Name, found: &mut Findings) -> Result<(), Memory>
+    ensures { OnOk result (found.new ≡ found.old ++ label name.now) }
 {
-    match rule {
-        Rule::Reserved => judge(
-            name.place(),
-            !begins_reserved(name.as_slice()) && !is_position(name.as_slice()),
-        ),
-        _ => judge(name.place(), true),
+    broken_where(
+        begins_reserved(name.as_slice()) || is_position(name.as_slice()),
+        Rule::Reserved,
+        name,
+        found,
+    )
+}
+
+/// The use of a name: its meaning, or that it has none.
+pub(crate) fn used(
+    meaning: Option<Meaning>,
+    name: &Name,
+    found: &mut Findings,
+) -> Result<(), Memory>
+    ensures { OnOk result (found.new ≡ found.old ++ used meaning name.now) }
+{
+    match meaning {
+        Some(meaning) => found.push(Finding::Meaning(meaning)),
+        None => broken_where(true, Rule::Unknown, name, found),
     }
 }
 
-/// The rule on a use of a name.
-pub(crate) fn known(rule: Rule, place: Place, meant: bool) -> Result<(), Wrong>
-    ensures { Judged result (known rule meant) }
+pub(crate) fn each_identifier(names: &[Name], found: &mut Findings) -> Result<(), Memory>
+    ensures { OnOk result (found.new ≡ found.old ++ each_identifier names.now) }
 {
-    match rule {
-        Rule::Unknown => judge(place, meant),
-        _ => judge(place, true),
-    }
-}
-
-/// That no name stands twice, at the later place of one that does.
-#[tactic(auto, using(crate::proofs::Distinct::more_names, crate::proofs::Distinct::name_twice, crate::proofs::Distinct::all_names))]
-fn are_distinct(alloc: Global, names: &[Name]) -> Result<(), Wrong>
-    ensures { Judged result (distinct names.now) }
-{
-    let mut seen = NameTable::new(alloc);
     for name in names {
-        if seen.contains(name) {
-            return Err(Wrong::At(name.place()));
-        }
-        let copy = Name::new(alloc, name.place(), name.as_slice())?;
-        seen.push(copy)?;
+        identifier(name, found)?;
     }
     Ok(())
 }
 
-/// The numbers of labels.
-fn numbers_of(alloc: Global, names: &[Name]) -> Result<Vec<u32>, Memory>
-    ensures { IfOk result (λ made. made.items ≡ map label_id names.now) }
+pub(crate) fn each_label(names: &[Name], found: &mut Findings) -> Result<(), Memory>
+    ensures { OnOk result (found.new ≡ found.old ++ each_label names.now) }
 {
-    let mut numbers = Vec::new(alloc);
     for name in names {
-        numbers.push(label_id(name.as_slice()))?;
-    }
-    Ok(numbers)
-}
-
-/// Adds a number, and says whether it is new.
-fn note(seen: &mut IndexSet<u32>, number: u32) -> Result<bool, Memory>
-    ensures new { IfOk result (λ added. added ≡ not (list_any (λ y. nat_eq number y) seen.old.keys)) }
-    ensures keys { OnOk result (seen.new.keys ≡ insert_key nat_eq seen.old.keys number) }
-{
-    Ok(seen.insert(number)?)
-}
-
-/// That no number stands twice, at the place of the later name of one that does.
-#[tactic(auto, using(crate::proofs::Distinct::more_numbers, crate::proofs::Distinct::number_twice, crate::proofs::Distinct::all_numbers))]
-fn have_distinct_numbers(alloc: Global, numbers: &[u32], names: &[Name]) -> Result<(), Wrong>
-    requires { length numbers.now ≡ length names.now }
-    ensures { Judged result (distinct_numbers numbers.now) }
-{
-    let mut seen = IndexSet::new(alloc);
-    for index in 0..numbers.len() {
-        if !note(&mut seen, numbers[index])? {
-            return Err(Wrong::At(names[index].place()));
-        }
+        label(name, found)?;
     }
     Ok(())
 }
 
-/// The rule on the names that one list, pattern or type binds.
-pub(crate) fn together(alloc: Global, rule: Rule, names: &Names) -> Result<(), Wrong>
-    ensures { Judged result (together rule names.now) }
+/// Adds a copy of a name, and says whether the name was there.
+fn note_name(alloc: Global, front: &mut NameTable, name: &Name) -> Result<bool, Memory>
+    ensures was { IfOk result (λ was. was ≡ contains front.old name.now.bytes) }
+    ensures added { OnOk result (front.new ≡ front.old ++ name.now.bytes ∷ []) }
 {
-    match rule {
-        Rule::Twice => are_distinct(alloc, names.as_slice()),
-        _ => Ok(()),
-    }
+    let was = front.contains(name);
+    front.push(name.copy(alloc)?)?;
+    Ok(was)
 }
 
-/// The rule on the labels of one object, variant or actor.
-pub(crate) fn labels(alloc: Global, rule: Rule, names: &Names) -> Result<(), Wrong>
-    ensures { Judged result (labels rule names.now) }
+/// The rule on the names that one list, pattern or type binds, broken at each that stands earlier in the list too.
+pub(crate) fn together(alloc: Global, names: &[Name], found: &mut Findings) -> Result<(), Memory>
+    ensures { OnOk result (found.new ≡ found.old ++ together names.now) }
 {
-    match rule {
-        Rule::LabelClash => {
-            let numbers = numbers_of(alloc, names.as_slice())?;
-            have_distinct_numbers(alloc, numbers.as_slice(), names.as_slice())
-        }
-        _ => Ok(()),
+    let mut front = NameTable::new(alloc);
+    for name in names {
+        let is_there = note_name(alloc, &mut front, name)?;
+        broken_where(is_there, Rule::Twice, name, found)?;
     }
+    Ok(())
+}
+
+/// Adds a number, and says whether it was there.
+fn note_number(front: &mut IndexSet<u32>, number: u32) -> Result<bool, Memory>
+    ensures was { IfOk result (λ was. was ≡ has_number front.old.keys number) }
+    ensures keys { OnOk result (front.new.keys ≡ with_number front.old.keys number) }
+{
+    let is_new = front.insert(number)?;
+    Ok(!is_new)
+}
+
+/// The rule on the labels of one object, variant or actor, broken at each whose number stands earlier in the list too.
+pub(crate) fn labels(alloc: Global, names: &[Name], found: &mut Findings) -> Result<(), Memory>
+    ensures { OnOk result (found.new ≡ found.old ++ labels names.now) }
+{
+    let mut front = IndexSet::new(alloc);
+    for name in names {
+        let clashes = note_number(&mut front, label_id(name.as_slice()))?;
+        broken_where(clashes, Rule::LabelClash, name, found)?;
+    }
+    Ok(())
 }
 
 /// Adds a copy of a name.
 pub(crate) fn push_copy(alloc: Global, names: &mut Names, name: &Name) -> Result<(), Memory>
     ensures { OnOk result (names.new ≡ names.old ++ name.now ∷ []) }
 {
-    let copy = Name::new(alloc, name.place(), name.as_slice())?;
-    names.push(copy)
+    names.push(name.copy(alloc)?)
 }

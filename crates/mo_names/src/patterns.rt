@@ -1,46 +1,54 @@
-//! The rules of names in patterns.
-ghost use Rattle.std.specs.Prelude.{◌≡◌, ◌++◌, ◌∷◌, [], ◌&&◌, OnOk, IfOk, map, option_map, Bool};
-ghost use Rattle.mo_names.specs.Judged.{Judged};
-ghost use Rattle.mo_names.specs.Rules.{together};
-ghost use Rattle.mo_names.specs.PatternRules.{Binder, pattern_binder, pattern_field_binder, parameters_binder, bound_names, each_binder, whole};
+//! The names in patterns.
+ghost use Rattle.std.specs.Prelude.{◌≡◌, ◌++◌, ◌∷◌, [], OnOk, map};
+ghost use Rattle.mo_names.specs.Findings.{together};
+ghost use Rattle.mo_names.specs.PatternNames.{in_pattern, in_pattern_field, in_parameters, bound_names, each_binder, whole};
 
+use crate::finding::Findings;
 use crate::names::{identifier, label, push_copy, together};
 use crate::scope::{Names, Scope};
 use crate::walk::Walk;
-use crate::wrong::Wrong;
+use mo_num::Memory;
 use mo_syntax::{Node, Parameters, Pattern, PatternField};
 
 impl Walk {
     /// A part of a pattern. Adds the names that it binds.
     #[cycle(pattern)]
-    #[tactic(auto, unfolding(crate::specs::PatternRules::pattern_binder, crate::specs::PatternRules::pattern_field_binder))]
-    pub(crate) fn pattern(self, p: &Pattern, scope: &Scope, names: &mut Names) -> Result<(), Wrong>
-        ensures judged { Judged result ((pattern_binder self.rule p.now).meets scope.now) }
-        ensures names { OnOk result (names.new ≡ names.old ++ (pattern_binder self.rule p.now).names) }
+    #[tactic(auto, unfolding(crate::specs::PatternNames::in_pattern, crate::specs::PatternNames::in_pattern_field))]
+    pub(crate) fn pattern(
+        self,
+        p: &Pattern,
+        scope: &Scope,
+        names: &mut Names,
+        found: &mut Findings,
+    ) -> Result<(), Memory>
+        ensures found { OnOk result (found.new ≡ found.old ++ (in_pattern p.now).finds scope.now) }
+        ensures names { OnOk result (names.new ≡ names.old ++ (in_pattern p.now).names) }
     {
         match p {
             Pattern::Annotated(p, a) => {
-                self.pattern(p.get(), scope, names)?;
-                self.type_expression(a.get(), scope)
+                self.pattern(p.get(), scope, names, found)?;
+                self.type_expression(a.get(), scope, found)
             }
             Pattern::Alternative(p, q) => {
-                self.pattern(p.get(), scope, names)?;
-                self.pattern(q.get(), scope, names)
+                self.pattern(p.get(), scope, names, found)?;
+                self.pattern(q.get(), scope, names, found)
             }
-            Pattern::Optional(p) => self.pattern(p.get(), scope, names),
-            Pattern::Tagged(name, None) => label(self.rule, name),
+            Pattern::Optional(p) => self.pattern(p.get(), scope, names, found),
+            Pattern::Tagged(name, None) => label(name, found),
             Pattern::Tagged(name, Some(p)) => {
-                label(self.rule, name)?;
-                self.pattern(p.get(), scope, names)
+                label(name, found)?;
+                self.pattern(p.get(), scope, names, found)
             }
             Pattern::Variable(name) => {
                 push_copy(self.alloc, names, name)?;
-                identifier(self.rule, name)
+                identifier(name, found)
             }
             Pattern::Wildcard => Ok(()),
             Pattern::Constant(_, _) => Ok(()),
-            Pattern::Parenthesized(items) => self.patterns(items.as_slice(), scope, names),
-            Pattern::Object(fields, _) => self.pattern_fields(fields.as_slice(), scope, names),
+            Pattern::Parenthesized(items) => self.patterns(items.as_slice(), scope, names, found),
+            Pattern::Object(fields, _) => {
+                self.pattern_fields(fields.as_slice(), scope, names, found)
+            }
         }
     }
 
@@ -50,12 +58,13 @@ impl Walk {
         patterns: &[Node<Pattern>],
         scope: &Scope,
         names: &mut Names,
-    ) -> Result<(), Wrong>
-        ensures judged { Judged result (each_binder (map (pattern_binder self.rule) patterns.now) scope.now) }
-        ensures names { OnOk result (names.new ≡ names.old ++ bound_names (map (pattern_binder self.rule) patterns.now)) }
+        found: &mut Findings,
+    ) -> Result<(), Memory>
+        ensures found { OnOk result (found.new ≡ found.old ++ each_binder (map in_pattern patterns.now) scope.now) }
+        ensures names { OnOk result (names.new ≡ names.old ++ bound_names (map in_pattern patterns.now)) }
     {
         for one in patterns {
-            self.pattern(one.get(), scope, names)?;
+            self.pattern(one.get(), scope, names, found)?;
         }
         Ok(())
     }
@@ -66,36 +75,33 @@ impl Walk {
         fields: &[Node<PatternField>],
         scope: &Scope,
         names: &mut Names,
-    ) -> Result<(), Wrong>
-        ensures judged { Judged result (each_binder (map (pattern_field_binder self.rule) fields.now) scope.now) }
-        ensures names { OnOk result (names.new ≡ names.old ++ bound_names (map (pattern_field_binder self.rule) fields.now)) }
+        found: &mut Findings,
+    ) -> Result<(), Memory>
+        ensures found { OnOk result (found.new ≡ found.old ++ each_binder (map in_pattern_field fields.now) scope.now) }
+        ensures names { OnOk result (names.new ≡ names.old ++ bound_names (map in_pattern_field fields.now)) }
     {
         for one in fields {
-            self.pattern_field(one.get(), scope, names)?;
+            self.pattern_field(one.get(), scope, names, found)?;
         }
         Ok(())
     }
 
     #[cycle(pattern)]
-    #[tactic(auto, unfolding(crate::specs::PatternRules::pattern_binder, crate::specs::PatternRules::pattern_field_binder))]
+    #[tactic(auto, unfolding(crate::specs::PatternNames::in_pattern, crate::specs::PatternNames::in_pattern_field))]
     fn pattern_field(
         self,
         field: &PatternField,
         scope: &Scope,
         names: &mut Names,
-    ) -> Result<(), Wrong>
-        ensures judged { Judged result ((pattern_field_binder self.rule field.now).meets scope.now) }
-        ensures names { OnOk result (names.new ≡ names.old ++ (pattern_field_binder self.rule field.now).names) }
+        found: &mut Findings,
+    ) -> Result<(), Memory>
+        ensures found { OnOk result (found.new ≡ found.old ++ (in_pattern_field field.now).finds scope.now) }
+        ensures names { OnOk result (names.new ≡ names.old ++ (in_pattern_field field.now).names) }
     {
+        label(&field.name, found)?;
         match &field.pattern {
-            None => {
-                push_copy(self.alloc, names, &field.name)?;
-                label(self.rule, &field.name)
-            }
-            Some(p) => {
-                label(self.rule, &field.name)?;
-                self.pattern(p.get(), scope, names)
-            }
+            None => push_copy(self.alloc, names, &field.name),
+            Some(p) => self.pattern(p.get(), scope, names, found),
         }
     }
 
@@ -104,15 +110,16 @@ impl Walk {
         parameters: &Parameters,
         scope: &Scope,
         names: &mut Names,
-    ) -> Result<(), Wrong>
-        ensures judged { Judged result ((parameters_binder self.rule parameters.now).meets scope.now) }
-        ensures names { OnOk result (names.new ≡ names.old ++ (parameters_binder self.rule parameters.now).names) }
+        found: &mut Findings,
+    ) -> Result<(), Memory>
+        ensures found { OnOk result (found.new ≡ found.old ++ (in_parameters parameters.now).finds scope.now) }
+        ensures names { OnOk result (names.new ≡ names.old ++ (in_parameters parameters.now).names) }
     {
         match parameters {
-            Parameters::List(patterns) => self.patterns(patterns.as_slice(), scope, names),
+            Parameters::List(patterns) => self.patterns(patterns.as_slice(), scope, names, found),
             Parameters::Single(name) => {
                 push_copy(self.alloc, names, name)?;
-                identifier(self.rule, name)
+                identifier(name, found)
             }
         }
     }
@@ -123,13 +130,14 @@ impl Walk {
         p: &Pattern,
         scope: &Scope,
         names: &mut Names,
-    ) -> Result<(), Wrong>
+        found: &mut Findings,
+    ) -> Result<(), Memory>
         requires { names.old ≡ [] }
-        ensures judged { Judged result (whole self.rule (pattern_binder self.rule p.now) scope.now) }
-        ensures names { OnOk result (names.new ≡ (pattern_binder self.rule p.now).names) }
+        ensures found { OnOk result (found.new ≡ found.old ++ whole (in_pattern p.now) scope.now) }
+        ensures names { OnOk result (names.new ≡ (in_pattern p.now).names) }
     {
-        self.pattern(p, scope, names)?;
-        together(self.alloc, self.rule, names)
+        self.pattern(p, scope, names, found)?;
+        together(self.alloc, names.as_slice(), found)
     }
 
     /// A whole list of parameters. Adds the names that it binds to what is empty.
@@ -138,12 +146,13 @@ impl Walk {
         parameters: &Parameters,
         scope: &Scope,
         names: &mut Names,
-    ) -> Result<(), Wrong>
+        found: &mut Findings,
+    ) -> Result<(), Memory>
         requires { names.old ≡ [] }
-        ensures judged { Judged result (whole self.rule (parameters_binder self.rule parameters.now) scope.now) }
-        ensures names { OnOk result (names.new ≡ (parameters_binder self.rule parameters.now).names) }
+        ensures found { OnOk result (found.new ≡ found.old ++ whole (in_parameters parameters.now) scope.now) }
+        ensures names { OnOk result (names.new ≡ (in_parameters parameters.now).names) }
     {
-        self.parameter_list(parameters, scope, names)?;
-        together(self.alloc, self.rule, names)
+        self.parameter_list(parameters, scope, names, found)?;
+        together(self.alloc, names.as_slice(), found)
     }
 }

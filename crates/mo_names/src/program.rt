@@ -1,43 +1,45 @@
 //! The rules of names in a program.
-ghost use Rattle.std.specs.Prelude.{◌≡◌, ◌++◌, ◌∷◌, [], ◌&&◌, OnOk, IfOk, map, Bool};
-ghost use Rattle.std.specs.List.{list_all, flat_map};
-ghost use Rattle.mo_names.specs.Judged.{Judged};
-ghost use Rattle.mo_names.specs.Rules.{identifier, together};
+ghost use Rattle.std.specs.Prelude.{◌≡◌, ◌++◌, ◌∷◌, [], OnOk, IfOk, map, not, is_none};
+ghost use Rattle.std.specs.List.{flat_map};
+ghost use Rattle.mo_name_table.specs.Places.{texts};
+ghost use Rattle.mo_names.specs.Findings.{identifier, together, labels, each_identifier};
 ghost use Rattle.mo_names.specs.Scopes.{library_of, with_values};
-ghost use Rattle.mo_names.specs.PatternRules.{whole};
-ghost use Rattle.mo_names.specs.ExpressionRules.{header, header_scope, body_scope};
-ghost use Rattle.mo_names.specs.ProgramRules.{import_rule, context_binder, prefix_binder, shared_function, actor_field, field_values, field_types, field_methods, field_systems, field_stables, actor_names, name_of, program_scope, actor_rule, follows};
+ghost use Rattle.mo_names.specs.PatternNames.{whole};
+ghost use Rattle.mo_names.specs.ExpressionNames.{header, header_scope, body_scope};
+ghost use Rattle.mo_names.specs.ProgramNames.{in_import, in_context, in_prefix, shared_function, in_actor_field, field_values, field_types, field_methods, field_systems, field_stables, actor_names, name_of, import_names, program_scope, in_actor, findings};
 
+use crate::finding::Findings;
 use crate::library::{Library, is_system_function, library_of};
-use crate::names::{identifier, known, label, labels, push_copy, together};
+use crate::names::{broken_where, each_identifier, identifier, label, labels, push_copy, together};
+use crate::rule::Rule;
 use crate::scope::{Names, Scope, table_of};
 use crate::walk::Walk;
-use crate::wrong::Wrong;
 use mo_name_table::NameTable;
 use mo_num::{Memory, Sequence};
 use mo_syntax::{Actor, ActorField, Context, Import, Node, SharedFunction, SharedPrefix, Tree};
+use std::alloc::Global;
 
 impl Walk {
-    fn import(self, import: &Import) -> Result<(), Wrong>
-        ensures { Judged result (import_rule self.rule import.now) }
+    fn import(self, import: &Import, found: &mut Findings) -> Result<(), Memory>
+        ensures { OnOk result (found.new ≡ found.old ++ in_import import.now) }
     {
-        identifier(self.rule, &import.name)?;
+        identifier(&import.name, found)?;
         let library = library_of(import.path.get().as_slice());
-        known(self.rule, import.path.place(), library.is_some())
+        broken_where(library.is_none(), Rule::Unknown, &import.name, found)
     }
 
-    fn each_import(self, imports: &[Node<Import>]) -> Result<(), Wrong>
-        ensures { Judged result (list_all (import_rule self.rule) imports.now) }
+    fn each_import(self, imports: &[Node<Import>], found: &mut Findings) -> Result<(), Memory>
+        ensures { OnOk result (found.new ≡ found.old ++ flat_map in_import imports.now) }
     {
         for one in imports {
-            self.import(one.get())?;
+            self.import(one.get(), found)?;
         }
         Ok(())
     }
 
     /// The names of the imports.
     fn import_names(self, imports: &[Node<Import>]) -> Result<Names, Memory>
-        ensures { IfOk result (λ made. made ≡ map (λ x. x.name) imports.now) }
+        ensures { IfOk result (λ made. made ≡ import_names imports.now) }
     {
         let mut names = Names::new(self.alloc);
         for one in imports {
@@ -62,15 +64,16 @@ impl Walk {
         context: &Option<Context>,
         scope: &Scope,
         names: &mut Names,
-    ) -> Result<(), Wrong>
-        ensures judged { Judged result ((context_binder self.rule context.now).meets scope.now) }
-        ensures names { OnOk result (names.new ≡ names.old ++ (context_binder self.rule context.now).names) }
+        found: &mut Findings,
+    ) -> Result<(), Memory>
+        ensures found { OnOk result (found.new ≡ found.old ++ (in_context context.now).finds scope.now) }
+        ensures names { OnOk result (names.new ≡ names.old ++ (in_context context.now).names) }
     {
         match context {
             None => Ok(()),
-            Some(Context::Parenthesized(p)) => self.pattern(p.get(), scope, names),
+            Some(Context::Parenthesized(p)) => self.pattern(p.get(), scope, names, found),
             Some(Context::Object(fields, _)) => {
-                self.pattern_fields(fields.as_slice(), scope, names)
+                self.pattern_fields(fields.as_slice(), scope, names, found)
             }
         }
     }
@@ -80,89 +83,116 @@ impl Walk {
         prefix: &Option<SharedPrefix>,
         scope: &Scope,
         names: &mut Names,
-    ) -> Result<(), Wrong>
-        ensures judged { Judged result ((prefix_binder self.rule prefix.now).meets scope.now) }
-        ensures names { OnOk result (names.new ≡ names.old ++ (prefix_binder self.rule prefix.now).names) }
+        found: &mut Findings,
+    ) -> Result<(), Memory>
+        ensures found { OnOk result (found.new ≡ found.old ++ (in_prefix prefix.now).finds scope.now) }
+        ensures names { OnOk result (names.new ≡ names.old ++ (in_prefix prefix.now).names) }
     {
         match prefix {
             None => Ok(()),
-            Some(prefix) => self.context(&prefix.context, scope, names),
+            Some(prefix) => self.context(&prefix.context, scope, names, found),
         }
     }
 
     /// Adds the names of the context of a call.
-    fn enter_prefix(self, prefix: &Option<SharedPrefix>, scope: &mut Scope) -> Result<(), Wrong>
-        ensures judged { Judged result (whole self.rule (prefix_binder self.rule prefix.now) scope.old) }
-        ensures entered { OnOk result (scope.new ≡ with_values (prefix_binder self.rule prefix.now).names scope.old) }
+    fn enter_prefix(
+        self,
+        prefix: &Option<SharedPrefix>,
+        scope: &mut Scope,
+        found: &mut Findings,
+    ) -> Result<(), Memory>
+        ensures found { OnOk result (found.new ≡ found.old ++ whole (in_prefix prefix.now) scope.old) }
+        ensures entered { OnOk result (scope.new ≡ with_values (in_prefix prefix.now).names scope.old) }
     {
         let mut names = Names::new(self.alloc);
-        self.prefix(prefix, scope, &mut names)?;
-        together(self.alloc, self.rule, &names)?;
-        scope.add_values(names)?;
-        Ok(())
+        self.prefix(prefix, scope, &mut names, found)?;
+        together(self.alloc, names.as_slice(), found)?;
+        scope.add_values(names)
     }
 
     /// Adds the parameters of a public function.
-    fn enter_shared(self, function: &SharedFunction, scope: &mut Scope) -> Result<(), Wrong>
+    fn enter_shared(
+        self,
+        function: &SharedFunction,
+        scope: &mut Scope,
+        found: &mut Findings,
+    ) -> Result<(), Memory>
         requires { scope.old.loops ≡ [] }
-        ensures judged { Judged result (header self.rule None function.now.parameters (Some function.now.result) (header_scope None scope.old)) }
-        ensures entered { OnOk result (scope.new ≡ body_scope self.rule None function.now.parameters scope.old) }
+        ensures found { OnOk result (found.new ≡ found.old ++ header None function.now.parameters (Some function.now.result) (header_scope None scope.old)) }
+        ensures entered { OnOk result (scope.new ≡ body_scope None function.now.parameters scope.old) }
     {
         scope.add_types(Names::new(self.alloc))?;
         let mut values = Names::new(self.alloc);
-        self.whole_parameters(&function.parameters, scope, &mut values)?;
-        self.type_expression(function.result.get(), scope)?;
-        scope.add_values(values)?;
-        Ok(())
+        self.whole_parameters(&function.parameters, scope, &mut values, found)?;
+        self.type_expression(function.result.get(), scope, found)?;
+        scope.add_values(values)
     }
 
     #[tactic(auto, using(crate::proofs::Scoping::seam, crate::proofs::Scoping::seam_twice))]
-    fn shared_function(self, function: &SharedFunction, scope: &mut Scope) -> Result<(), Wrong>
-        ensures judged { Judged result (shared_function self.rule function.now scope.old) }
+    fn shared_function(
+        self,
+        function: &SharedFunction,
+        scope: &mut Scope,
+        found: &mut Findings,
+    ) -> Result<(), Memory>
+        ensures found { OnOk result (found.new ≡ found.old ++ shared_function function.now scope.old) }
         ensures kept { OnOk result (scope.new ≡ scope.old) }
     {
-        label(self.rule, &function.name)?;
         let values = scope.values.len();
         let types = scope.types.len();
-        self.enter_prefix(&function.prefix, scope)?;
+        self.enter_prefix(&function.prefix, scope, found)?;
+        label(&function.name, found)?;
         let loops = scope.hide_loops(self.alloc);
-        self.enter_shared(function, scope)?;
-        self.expression(function.body.get(), scope)?;
+        self.enter_shared(function, scope, found)?;
+        self.expression(function.body.get(), scope, found)?;
         scope.leave(values, types, loops);
         Ok(())
     }
 
-    fn actor_field(self, field: &ActorField, scope: &mut Scope) -> Result<(), Wrong>
-        ensures judged { Judged result (actor_field self.rule scope.old field.now) }
+    fn actor_field(
+        self,
+        field: &ActorField,
+        scope: &mut Scope,
+        found: &mut Findings,
+    ) -> Result<(), Memory>
+        ensures found { OnOk result (found.new ≡ found.old ++ in_actor_field scope.old field.now) }
         ensures kept { OnOk result (scope.new ≡ scope.old) }
     {
         match field {
-            ActorField::Public(function) => self.shared_function(function.get(), scope),
+            ActorField::Public(function) => self.shared_function(function.get(), scope, found),
             ActorField::System(name, _, body) => {
-                identifier(self.rule, name)?;
-                known(self.rule, name.place(), is_system_function(name.as_slice()))?;
-                self.expression(body.get(), scope)
+                identifier(name, found)?;
+                let is_other = !is_system_function(name.as_slice());
+                broken_where(is_other, Rule::Unknown, name, found)?;
+                self.expression(body.get(), scope, found)
             }
-            ActorField::Declared(_, declaration) => self.declaration(declaration.get(), scope),
+            ActorField::Declared(_, declaration) => {
+                self.declaration(declaration.get(), scope, found)
+            }
             ActorField::Stable(_, name, kind, a) => {
-                label(self.rule, name)?;
-                self.annotation(kind, scope)?;
-                self.expression(a.get(), scope)
+                label(name, found)?;
+                self.annotation(kind, scope, found)?;
+                self.expression(a.get(), scope, found)
             }
         }
     }
 
-    fn each_actor_field(self, fields: &[Node<ActorField>], scope: &mut Scope) -> Result<(), Wrong>
-        ensures { Judged result (list_all (actor_field self.rule scope.old) fields.now) }
+    fn each_actor_field(
+        self,
+        fields: &[Node<ActorField>],
+        scope: &mut Scope,
+        found: &mut Findings,
+    ) -> Result<(), Memory>
+        ensures { OnOk result (found.new ≡ found.old ++ flat_map (in_actor_field scope.old) fields.now) }
     {
         for one in fields {
-            self.actor_field(one.get(), scope)?;
+            self.actor_field(one.get(), scope, found)?;
         }
         Ok(())
     }
 
     fn field_values(self, field: &ActorField, names: &mut Names) -> Result<(), Memory>
-        ensures { OnOk result (names.new ≡ names.old ++ field_values self.rule field.now) }
+        ensures { OnOk result (names.new ≡ names.old ++ field_values field.now) }
     {
         match field {
             ActorField::Public(function) => push_copy(self.alloc, names, &function.get().name),
@@ -175,7 +205,7 @@ impl Walk {
     }
 
     fn field_types(self, field: &ActorField, names: &mut Names) -> Result<(), Memory>
-        ensures { OnOk result (names.new ≡ names.old ++ field_types self.rule field.now) }
+        ensures { OnOk result (names.new ≡ names.old ++ field_types field.now) }
     {
         match field {
             ActorField::Declared(_, declaration) => self.declared_types(declaration.get(), names),
@@ -184,7 +214,7 @@ impl Walk {
     }
 
     fn all_values(self, fields: &[Node<ActorField>]) -> Result<Names, Memory>
-        ensures { IfOk result (λ made. made ≡ flat_map (field_values self.rule) fields.now) }
+        ensures { IfOk result (λ made. made ≡ flat_map field_values fields.now) }
     {
         let mut names = Names::new(self.alloc);
         for one in fields {
@@ -194,7 +224,7 @@ impl Walk {
     }
 
     fn all_types(self, fields: &[Node<ActorField>]) -> Result<Names, Memory>
-        ensures { IfOk result (λ made. made ≡ flat_map (field_types self.rule) fields.now) }
+        ensures { IfOk result (λ made. made ≡ flat_map field_types fields.now) }
     {
         let mut names = Names::new(self.alloc);
         for one in fields {
@@ -239,19 +269,19 @@ impl Walk {
         Ok(names)
     }
 
-    fn actor_names(self, fields: &[Node<ActorField>]) -> Result<(), Wrong>
-        ensures { Judged result (actor_names self.rule fields.now) }
+    fn actor_names(self, fields: &[Node<ActorField>], found: &mut Findings) -> Result<(), Memory>
+        ensures { OnOk result (found.new ≡ found.old ++ actor_names fields.now) }
     {
         let values = self.all_values(fields)?;
-        together(self.alloc, self.rule, &values)?;
+        together(self.alloc, values.as_slice(), found)?;
         let types = self.all_types(fields)?;
-        together(self.alloc, self.rule, &types)?;
+        together(self.alloc, types.as_slice(), found)?;
         let systems = self.system_names(fields)?;
-        together(self.alloc, self.rule, &systems)?;
+        together(self.alloc, systems.as_slice(), found)?;
         let methods = self.method_names(fields)?;
-        labels(self.alloc, self.rule, &methods)?;
+        labels(self.alloc, methods.as_slice(), found)?;
         let stables = self.stable_names(fields)?;
-        labels(self.alloc, self.rule, &stables)
+        labels(self.alloc, stables.as_slice(), found)
     }
 
     fn actor_name(self, actor: &Actor) -> Result<Names, Memory>
@@ -267,87 +297,96 @@ impl Walk {
         }
     }
 
-    fn program_names(self, imports: &[Node<Import>], actor: &Actor) -> Result<(), Wrong>
-        ensures { Judged result (together self.rule (map (λ x. x.name) imports.now ++ name_of actor.now.name)) }
+    /// The names of the imports and of the actor.
+    fn program_names(self, imports: &[Node<Import>], actor: &Actor) -> Result<Names, Memory>
+        ensures { IfOk result (λ made. made ≡ import_names imports.now ++ name_of actor.now.name) }
     {
         let mut names = self.import_names(imports)?;
-        let name = self.actor_name(actor)?;
-        names.append(name)?;
-        together(self.alloc, self.rule, &names)
+        if let Some(name) = &actor.name {
+            push_copy(self.alloc, &mut names, name)?;
+        }
+        Ok(names)
     }
 
-    fn value_table(self, actor: &Actor) -> Result<NameTable, Memory>
-        ensures { IfOk result (λ made. made ≡ name_of actor.now.name ++ flat_map (field_values self.rule) actor.now.fields) }
+    /// The name of the actor, and the values of its fields.
+    fn actor_values(self, actor: &Actor) -> Result<Names, Memory>
+        ensures { IfOk result (λ made. made ≡ name_of actor.now.name ++ flat_map field_values actor.now.fields) }
     {
-        let mut values = self.actor_name(actor)?;
-        let fields = self.all_values(actor.fields.as_slice())?;
-        values.append(fields)?;
-        table_of(self.alloc, values)
+        let mut names = self.actor_name(actor)?;
+        for one in actor.fields.as_slice() {
+            self.field_values(one.get(), &mut names)?;
+        }
+        Ok(names)
     }
 
-    fn type_table(self, fields: &[Node<ActorField>]) -> Result<NameTable, Memory>
-        ensures { IfOk result (λ made. made ≡ flat_map (field_types self.rule) fields.now) }
+    fn program_scope(self, imports: &[Node<Import>], actor: &Actor) -> Result<Scope, Memory>
+        ensures { IfOk result (λ made. made ≡ program_scope imports.now actor.now) }
     {
-        let types = self.all_types(fields)?;
-        table_of(self.alloc, types)
-    }
-
-    fn import_table(self, imports: &[Node<Import>]) -> Result<NameTable, Memory>
-        ensures { IfOk result (λ made. made ≡ map (λ x. x.name) imports.now) }
-    {
-        let names = self.import_names(imports)?;
-        table_of(self.alloc, names)
-    }
-
-    pub(crate) fn program_scope(
-        self,
-        imports: &[Node<Import>],
-        actor: &Actor,
-    ) -> Result<Scope, Memory>
-        ensures { IfOk result (λ made. made ≡ program_scope self.rule imports.now actor.now) }
-    {
+        let values = self.actor_values(actor)?;
+        let imported = self.import_names(imports)?;
+        let types = self.all_types(actor.fields.as_slice())?;
         Ok(Scope {
-            values: self.value_table(actor)?,
-            imports: self.import_table(imports)?,
+            values: table_of(self.alloc, values)?,
+            imports: table_of(self.alloc, imported)?,
             libraries: self.libraries_of(imports)?,
-            types: self.type_table(actor.fields.as_slice())?,
+            types: table_of(self.alloc, types)?,
             loops: NameTable::new(self.alloc),
         })
     }
 
-    fn actor_fields(self, imports: &[Node<Import>], actor: &Actor) -> Result<(), Wrong>
-        ensures { Judged result (list_all (actor_field self.rule (program_scope self.rule imports.now actor.now)) actor.now.fields) }
+    fn actor_fields(
+        self,
+        imports: &[Node<Import>],
+        actor: &Actor,
+        found: &mut Findings,
+    ) -> Result<(), Memory>
+        ensures { OnOk result (found.new ≡ found.old ++ flat_map (in_actor_field (program_scope imports.now actor.now)) actor.now.fields) }
     {
         let mut scope = self.program_scope(imports, actor)?;
-        self.each_actor_field(actor.fields.as_slice(), &mut scope)
+        self.each_actor_field(actor.fields.as_slice(), &mut scope, found)
     }
 
-    #[tactic(auto, unfolding(crate::specs::ProgramRules::actor_rule))]
-    fn actor(self, imports: &[Node<Import>], actor: &Actor) -> Result<(), Wrong>
-        ensures { Judged result (actor_rule self.rule imports.now actor.now) }
+    #[tactic(auto, unfolding(crate::specs::ProgramNames::in_actor))]
+    fn actor(
+        self,
+        imports: &[Node<Import>],
+        actor: &Actor,
+        found: &mut Findings,
+    ) -> Result<(), Memory>
+        ensures { OnOk result (found.new ≡ found.old ++ in_actor imports.now actor.now) }
     {
-        self.actor_names(actor.fields.as_slice())?;
-        self.actor_fields(imports, actor)
+        self.actor_names(actor.fields.as_slice(), found)?;
+        self.actor_fields(imports, actor, found)
     }
 
-    /// The rule on the name of the actor.
-    fn actor_identifier(self, actor: &Actor) -> Result<(), Wrong>
-        ensures { Judged result (list_all (identifier self.rule) (name_of actor.now.name)) }
+    /// The rules on the names of the imports and of the actor.
+    fn outer_names(
+        self,
+        imports: &[Node<Import>],
+        actor: &Actor,
+        found: &mut Findings,
+    ) -> Result<(), Memory>
+        ensures { OnOk result (found.new ≡ found.old ++ (flat_map in_import imports.now ++ (together (import_names imports.now ++ name_of actor.now.name) ++ each_identifier (name_of actor.now.name)))) }
     {
+        self.each_import(imports, found)?;
+        let names = self.program_names(imports, actor)?;
+        together(self.alloc, names.as_slice(), found)?;
         let name = self.actor_name(actor)?;
-        self.each_identifier(name.as_slice())
+        each_identifier(name.as_slice(), found)
     }
+}
 
-    /// The rule on a whole program.
-    pub(crate) fn program(self, tree: &Tree) -> Result<(), Wrong>
-        ensures { Judged result (follows self.rule tree.now) }
-    {
-        let imports = tree.imports.as_slice();
-        let actor = tree.actor.get();
-        self.each_import(imports)?;
-        self.program_names(imports, actor)?;
-        self.actor_identifier(actor)?;
-        self.actor(imports, actor)?;
-        Ok(())
-    }
+/// What the names of a program mean, in the order of the source, and the rules that they break (Motoko language manual, "Identifiers"): each that is
+/// used has a meaning, none is bound twice in one list, pattern or type, no labels clash, and none is reserved. Whether a value is used before it is defined is not
+/// tested here. The one error is that there is no memory.
+pub fn find_names(alloc: Global, tree: &Tree) -> Result<Findings, Memory>
+    ensures { IfOk result (λ found. found ≡ findings tree.now) }
+{
+    let walk = Walk { alloc };
+    let imports = tree.imports.as_slice();
+    let actor = tree.actor.get();
+    let mut found = Findings::new(alloc);
+    walk.outer_names(imports, actor, &mut found)?;
+    walk.actor(imports, actor, &mut found)?;
+    Ok(found)
 }

@@ -1,14 +1,24 @@
-//! The rules of names that are tested part by part.
+//! The rules on names.
+use mo_syntax::Place;
 
-/// A rule that each part of a program has to meet.
+/// A rule on the names of a program. Of those that are broken at one place the first in this order is named.
 #[derive(Clone, Copy, Debug, PartialEq, Eq)]
 pub enum Rule {
     /// Each name that is used has a meaning.
     Unknown,
     /// No name is bound twice in one list, pattern or type.
     Twice,
-    /// No two labels of one object, variant or actor have equal numbers.
+    /// No value is used before it is defined.
+    UsedBeforeDefined,
+    /// No two labels of one object, variant or actor, and no two stable variables, have equal numbers in Candid.
     LabelClash,
-    /// No identifier and no label is reserved.
+    /// No identifier begins with `__`, and no label is `_`, digits and `_`.
     Reserved,
+}
+
+/// A rule that is broken, and where.
+#[derive(Clone, Copy, Debug, PartialEq, Eq)]
+pub struct Breach {
+    pub rule: Rule,
+    pub place: Place,
 }

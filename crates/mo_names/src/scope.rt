@@ -1,5 +1,6 @@
 //! What names mean at a place.
 ghost use Rattle.std.specs.Prelude.{◌≡◌, ◌++◌, ◌∷◌, [], take, OnOk, IfOk, List, ℕ, length};
+ghost use Rattle.mo_name_table.specs.Places.{texts};
 ghost use Rattle.mo_names.specs.Scopes.{value_meaning, type_meaning, loop_meaning, member_meaning, module_of, with_values, with_types, with_loop, without_loops};
 
 use crate::library::{Library, built_in_type, member_of};
@@ -8,71 +9,13 @@ use mo_name_table::NameTable;
 use mo_num::{Memory, Sequence};
 use mo_syntax::Name;
 use std::alloc::Global;
-use std::marker::Model;
 
 /// A list of names with their places.
-#[derive(Drop)]
-pub(crate) struct Names {
-    list: Vec<Name>,
-}
-
-impl Model for Names {
-    ghost use Rattle.std.specs.Prelude.{List, ℕ};
-
-    ghost Value = { List (List ℕ) };
-
-    ghost view = { λ n. n.list.items };
-}
-
-impl Names {
-    pub(crate) fn new(alloc: Global) -> Self
-        ensures { result ≡ [] }
-    {
-        Names {
-            list: Vec::new(alloc),
-        }
-    }
-
-    pub(crate) fn as_slice(&self) -> &[Name]
-        ensures { result.now ≡ self.now }
-    {
-        self.list.as_slice()
-    }
-
-    pub(crate) fn len(&self) -> usize
-        ensures { result ≡ length self.now }
-    {
-        self.list.len()
-    }
-
-    pub(crate) fn push(&mut self, name: Name) -> Result<(), Memory>
-        ensures { OnOk result (self.new ≡ self.old ++ name ∷ []) }
-    {
-        self.list.push(name)?;
-        Ok(())
-    }
-
-    /// Adds the other names at the end.
-    pub(crate) fn append(&mut self, more: Names) -> Result<(), Memory>
-        ensures { OnOk result (self.new ≡ self.old ++ more) }
-    {
-        for name in more.list {
-            self.list.push(name)?;
-        }
-        Ok(())
-    }
-
-    /// Keeps only the first names.
-    pub(crate) fn truncate(&mut self, len: usize)
-        ensures { self.new ≡ take len self.old }
-    {
-        self.list.truncate(len);
-    }
-}
+pub type Names = Sequence<Name>;
 
 /// What has a meaning at a place: values, modules, types and labels of loops.
 #[derive(Drop)]
-pub struct Scope {
+pub(crate) struct Scope {
     pub(crate) values: NameTable,
     pub(crate) imports: NameTable,
     /// What each import brings in, where its path names a module.
@@ -83,9 +26,9 @@ pub struct Scope {
 
 /// Adds names at the end of a table.
 fn append(table: &mut NameTable, names: Names) -> Result<(), Memory>
-    ensures { OnOk result (table.new ≡ table.old ++ names) }
+    ensures { OnOk result (table.new ≡ table.old ++ texts names) }
 {
-    for name in names.list {
+    for name in names.into_vec() {
         table.push(name)?;
     }
     Ok(())
@@ -93,7 +36,7 @@ fn append(table: &mut NameTable, names: Names) -> Result<(), Memory>
 
 /// The table of names.
 pub(crate) fn table_of(alloc: Global, names: Names) -> Result<NameTable, Memory>
-    ensures { IfOk result (λ made. made ≡ names) }
+    ensures { IfOk result (λ made. made ≡ texts names) }
 {
     let mut table = NameTable::new(alloc);
     append(&mut table, names)?;
@@ -103,7 +46,7 @@ pub(crate) fn table_of(alloc: Global, names: Names) -> Result<NameTable, Memory>
 impl Scope {
     /// The module that the last import of this name brings in.
     fn module_of(&self, name: &Name) -> Option<Library>
-        ensures { result ≡ module_of self.now name.now }
+        ensures { result ≡ module_of self.now name.now.bytes }
     {
         let place = self.imports.find(name)?;
         match self.libraries.as_slice().get(place) {
@@ -113,15 +56,15 @@ impl Scope {
     }
 
     /// The innermost value of this name.
-    pub fn value_meaning(&self, name: &Name) -> Option<Meaning>
-        ensures { result ≡ value_meaning self.now name.now }
+    pub(crate) fn value_meaning(&self, name: &Name) -> Option<Meaning>
+        ensures { result ≡ value_meaning self.now name.now.bytes }
     {
         self.values.find(name).map(|level| Meaning::Value(level))
     }
 
     /// What `module_name.member` means: the value, or else the member of the module.
-    pub fn member_meaning(&self, module_name: &Name, member: &Name) -> Option<Meaning>
-        ensures { result ≡ member_meaning self.now module_name.now member.now }
+    pub(crate) fn member_meaning(&self, module_name: &Name, member: &Name) -> Option<Meaning>
+        ensures { result ≡ member_meaning self.now module_name.now.bytes member.now.bytes }
     {
         if let Some(level) = self.values.find(module_name) {
             return Some(Meaning::Value(level));
@@ -132,8 +75,8 @@ impl Scope {
     }
 
     /// The innermost declared type of this name, or else the built-in one.
-    pub fn type_meaning(&self, name: &Name) -> Option<Meaning>
-        ensures { result ≡ type_meaning self.now name.now }
+    pub(crate) fn type_meaning(&self, name: &Name) -> Option<Meaning>
+        ensures { result ≡ type_meaning self.now name.now.bytes }
     {
         if let Some(level) = self.types.find(name) {
             return Some(Meaning::Type(level));
@@ -143,8 +86,8 @@ impl Scope {
     }
 
     /// The innermost loop of this name.
-    pub fn loop_meaning(&self, name: &Name) -> Option<Meaning>
-        ensures { result ≡ loop_meaning self.now name.now }
+    pub(crate) fn loop_meaning(&self, name: &Name) -> Option<Meaning>
+        ensures { result ≡ loop_meaning self.now name.now.bytes }
     {
         self.loops.find(name).map(|level| Meaning::Loop(level))
     }
@@ -162,13 +105,13 @@ impl Scope {
     }
 
     pub(crate) fn add_loop(&mut self, name: Name) -> Result<(), Memory>
-        ensures { OnOk result (self.new ≡ with_loop name self.old) }
+        ensures { OnOk result (self.new ≡ with_loop name.bytes self.old) }
     {
         self.loops.push(name)
     }
 
     /// Takes the labels of loops away, and gives them.
-    pub fn hide_loops(&mut self, alloc: Global) -> NameTable
+    pub(crate) fn hide_loops(&mut self, alloc: Global) -> NameTable
         ensures scope { self.new ≡ without_loops self.old }
         ensures loops { result ≡ self.old.loops }
     {
@@ -176,7 +119,7 @@ impl Scope {
     }
 
     /// Forgets the values and types that were added since there were so many, and the loops.
-    pub fn leave(&mut self, values: usize, types: usize, loops: NameTable)
+    pub(crate) fn leave(&mut self, values: usize, types: usize, loops: NameTable)
         ensures { self.new ≡ record { values = take values self.old.values; imports = self.old.imports; libraries = self.old.libraries; types = take types self.old.types; loops = loops } }
     {
         self.values.truncate(values);
@@ -185,21 +128,21 @@ impl Scope {
     }
 
     /// Forgets the values that were added since there were so many.
-    pub fn forget_values(&mut self, values: usize)
+    pub(crate) fn forget_values(&mut self, values: usize)
         ensures { self.new ≡ record self.old { values = take values self.old.values } }
     {
         self.values.truncate(values);
     }
 
     /// Forgets the types that were added since there were so many.
-    pub fn forget_types(&mut self, types: usize)
+    pub(crate) fn forget_types(&mut self, types: usize)
         ensures { self.new ≡ record self.old { types = take types self.old.types } }
     {
         self.types.truncate(types);
     }
 
     /// Forgets the loops that were added since there were so many.
-    pub fn forget_loops(&mut self, loops: usize)
+    pub(crate) fn forget_loops(&mut self, loops: usize)
         ensures { self.new ≡ record self.old { loops = take loops self.old.loops } }
     {
         self.loops.truncate(loops);

@@ -1,10 +1,8 @@
-//! A walk over a tree that tests one rule.
-use crate::rule::Rule;
+//! A walk over a tree.
 use std::alloc::Global;
 
-/// A walk that tests the rule at each part.
+/// A walk that finds what the names in each part mean, and which rules they break.
 #[derive(Clone, Copy)]
 pub(crate) struct Walk {
     pub alloc: Global,
-    pub rule: Rule,
 }

@@ -2,5 +2,8 @@ pub mod Folded
 pub mod Having
 pub mod Calling
 pub mod Growing
-pub mod Faults
 pub mod Noting
+pub mod Listed
+pub mod Leasts
+pub mod Looking
+pub mod Judging

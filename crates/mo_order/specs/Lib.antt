@@ -1,5 +1,6 @@
 pub mod Parts
-pub mod Judged
+pub mod Least
 pub mod Calls
 pub mod Reach
-pub mod Fault
+pub mod Early
+pub mod Breaches

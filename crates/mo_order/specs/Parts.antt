@@ -1,22 +1,11 @@
--- What patterns bind, and what occurs in the parts of a tree that are neither expressions nor declarations.
-use Rattle.std.specs.Prelude.{List, map, false}
+-- What occurs in the parts of a tree that are neither expressions nor declarations, and in several parts.
+use Rattle.std.specs.Prelude.{List, map}
 use Rattle.std.specs.List.{flat_map}
 use Rattle.mo_syntax.specs.declared.expressions.Case.{Case, fold-Case}
 use Rattle.mo_syntax.specs.declared.expressions.ExpressionField.{ExpressionField, fold-ExpressionField}
 use Rattle.mo_syntax.specs.declared.declarations.DeclarationField.{DeclarationField, fold-DeclarationField}
-use Rattle.mo_syntax.specs.declared.patterns.Pattern.{Pattern}
-use Rattle.mo_syntax.specs.declared.patterns.Pattern.TheVariants as pattern
-use Rattle.mo_syntax.specs.declared.patterns.PatternField.{PatternField}
-use Rattle.mo_names.specs.Rules.{Names}
-use Rattle.mo_names.specs.Order.{Step, Found, FoundStep, declaration_step, expression_step, declaration_field_step, case_step, expression_field_step, pattern_names}
-
--- the names that patterns bind
-abbrev pub names_of_patterns : List Pattern → Names
-names_of_patterns patterns = pattern_names (pattern.Parenthesized patterns)
-
--- the names that fields of an object pattern bind
-abbrev pub names_of_pattern_fields : List PatternField → Names
-names_of_pattern_fields fields = pattern_names (pattern.Object fields false)
+use Rattle.mo_names.specs.Findings.{Names}
+use Rattle.mo_names.specs.Order.{Step, Found, FoundStep, declaration_step, expression_step, declaration_field_step, case_step, expression_field_step}
 
 unfoldable pub found_member : DeclarationField → FoundStep
 found_member = fold-DeclarationField FoundStep Found FoundStep Found Found declaration_step expression_step declaration_field_step case_step expression_field_step

@@ -1,13 +1,15 @@
 //! The functions of a list by the names that occur in their bodies.
-ghost use Rattle.std.specs.Prelude.{◌≡◌, ◌++◌, ◌∷◌, [], OnOk, IfOk, List, ℕ, Bool, cond, IfSome, IfNone};
+ghost use Rattle.std.specs.Prelude.{◌≡◌, ◌++◌, [], OnOk, IfOk, List, ℕ, cond};
 ghost use Rattle.std.specs.Global.{Vec};
 ghost use Rattle.std.specs.Str.{bytes_eq};
+ghost use Rattle.mo_name_table.specs.Places.{texts};
 ghost use Rattle.mo_names.specs.Order as order;
 ghost use Rattle.mo_order.specs.Calls.{functions_at, Mentioned, mentions, mentions_of};
 
-use crate::step::{Names, Step, push_copies};
+use crate::step::{Step, push_copies};
 use indexmap::IndexMap;
-use mo_num::{Memory, Sequence};
+use mo_names::Names;
+use mo_num::Memory;
 use mo_syntax::Name;
 use std::alloc::Global;
 
@@ -19,18 +21,18 @@ pub(crate) struct Calls {
 
 /// Takes the functions at a name away, and gives them.
 fn take(alloc: Global, functions: &mut IndexMap<Vec<u8>, Names>, key: &Vec<u8>) -> Names
-    ensures taken { result ≡ functions_at functions.old key.now }
+    ensures taken { texts result ≡ functions_at functions.old key.now }
     ensures others { (q : Vec ℕ) → functions_at functions.new q ≡ cond (bytes_eq key.now.items q.items) [] (functions_at functions.old q) }
 {
     match functions.swap_remove(key) {
         Some(names) => names,
-        None => Sequence::new(alloc),
+        None => Names::new(alloc),
     }
 }
 
 /// Puts the functions at a name.
 fn put(functions: &mut IndexMap<Vec<u8>, Names>, key: Vec<u8>, names: Names) -> Result<(), Memory>
-    ensures { (q : Vec ℕ) → OnOk result (functions_at functions.new q ≡ cond (bytes_eq key.items q.items) names (functions_at functions.old q)) }
+    ensures { (q : Vec ℕ) → OnOk result (functions_at functions.new q ≡ cond (bytes_eq key.items q.items) (texts names) (functions_at functions.old q)) }
 {
     functions.insert(key, names)?;
     Ok(())
@@ -43,7 +45,7 @@ fn add(
     name: &Name,
     more: &[Name],
 ) -> Result<(), Memory>
-    ensures { (q : Vec ℕ) → OnOk result (functions_at functions.new q ≡ functions_at functions.old q ++ cond (bytes_eq name.now q.items) more.now []) }
+    ensures { (q : Vec ℕ) → OnOk result (functions_at functions.new q ≡ functions_at functions.old q ++ cond (bytes_eq name.now.bytes q.items) (texts more.now) []) }
 {
     let key = Vec::from_slice(alloc, name.as_slice())?;
     let mut names = take(alloc, functions, &key);
@@ -79,7 +81,7 @@ pub(crate) fn calls_of(alloc: Global, steps: &[Step]) -> Result<Calls, Memory>
 impl Calls {
     /// The functions in whose bodies the name occurs.
     pub(crate) fn at(&self, alloc: Global, name: &Name) -> Result<&[Name], Memory>
-        ensures { (steps : List order.Step) → IfOk result (λ found. Mentioned steps self.now.functions → found.now ≡ mentions steps name.now) }
+        ensures { (steps : List order.Step) → IfOk result (λ found. Mentioned steps self.now.functions → texts found.now ≡ mentions steps name.now.bytes) }
     {
         let key = Vec::from_slice(alloc, name.as_slice())?;
         match self.functions.get(&key) {

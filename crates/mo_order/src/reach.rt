@@ -1,43 +1,26 @@
 //! The names through which what is defined late is reached.
-ghost use Rattle.std.specs.Prelude.{◌≡◌, ◌++◌, ◌<◌, ◌∷◌, [], OnOk, length, cond, slice_index_or, List, ℕ};
-ghost use Rattle.mo_names.specs.Rules.{Names};
+ghost use Rattle.std.specs.Prelude.{◌≡◌, ◌++◌, ◌<◌, [], OnOk, length, slice_index_or, List, ℕ};
+ghost use Rattle.mo_name_table.specs.Places.{texts};
+ghost use Rattle.mo_names.specs.Findings.{Texts};
 ghost use Rattle.mo_names.specs.Order as order;
 ghost use Rattle.mo_order.specs.Calls.{Mentioned, mentions};
 ghost use Rattle.mo_order.specs.Reach.{Reached, Grown};
 
 use crate::calls::Calls;
-use crate::step::Step;
+use crate::step::{Step, enter_copies, enter_copy};
 use mo_name_table::NameTable;
 use mo_num::Memory;
 use mo_syntax::Name;
 use std::alloc::Global;
 
-/// Adds a copy of a name.
-fn push_copy(alloc: Global, late: &mut NameTable, name: &Name) -> Result<(), Memory>
-    ensures { OnOk result (late.new ≡ late.old ++ name.now ∷ []) }
-{
-    let copy = Name::new(alloc, name.place(), name.as_slice())?;
-    late.push(copy)
-}
-
-/// Adds copies of names.
-fn push_copies(alloc: Global, late: &mut NameTable, names: &[Name]) -> Result<(), Memory>
-    ensures { OnOk result (late.new ≡ late.old ++ names.now) }
-{
-    for name in names {
-        push_copy(alloc, late, name)?;
-    }
-    Ok(())
-}
-
 /// Adds copies of the names that are not there yet.
 #[tactic(auto, using(crate::proofs::Growing::grown_more_at, crate::proofs::Growing::grown_kept_at, crate::proofs::Growing::grown_none))]
 fn push_new(alloc: Global, late: &mut NameTable, names: &[Name]) -> Result<(), Memory>
-    ensures { OnOk result (Grown late.old names.now late.new) }
+    ensures { OnOk result (Grown late.old (texts names.now) late.new) }
 {
     for name in names {
         if !late.contains(name) {
-            push_copy(alloc, late, name)?;
+            enter_copy(alloc, late, name)?;
         }
     }
     Ok(())
@@ -62,7 +45,7 @@ fn close(
     from: usize,
 ) -> Result<(), Memory>
     requires { Mentioned steps.now calls.now.functions }
-    ensures { (targets : Names) → OnOk result (Reached steps.now targets late.old from → Reached steps.now targets late.new (length late.new)) }
+    ensures { (targets : Texts) → OnOk result (Reached steps.now targets late.old from → Reached steps.now targets late.new (length late.new)) }
 {
     for next in from..usize::MAX {
         if next >= late.len() {
@@ -83,9 +66,9 @@ pub(crate) fn enter(
     late: &mut NameTable,
 ) -> Result<(), Memory>
     requires { Mentioned steps.now calls.now.functions }
-    ensures { (targets : Names) → OnOk result (Reached steps.now targets late.old (length late.old) → Reached steps.now (step.now.defines ++ targets) late.new (length late.new)) }
+    ensures { (targets : Texts) → OnOk result (Reached steps.now targets late.old (length late.old) → Reached steps.now (step.now.defines ++ targets) late.new (length late.new)) }
 {
     let from = late.len();
-    push_copies(alloc, late, step.defines())?;
+    enter_copies(alloc, late, step.defines())?;
     close(alloc, steps, calls, late, from)
 }

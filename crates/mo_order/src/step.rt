@@ -1,18 +1,15 @@
 //! Declarations as the test of order sees them: the names that they define and use.
-ghost use Rattle.std.specs.Prelude.{◌≡◌, ◌++◌, ◌∷◌, [], OnOk, IfOk, List, ℕ};
-ghost use Rattle.std.specs.List.{flat_map};
-ghost use Rattle.mo_names.specs.Rules.{contains};
-ghost use Rattle.mo_names.specs.Order.{Step, without, names_of_steps};
+ghost use Rattle.std.specs.Prelude.{◌≡◌, ◌++◌, ◌∷◌, [], OnOk, IfOk};
+ghost use Rattle.mo_name_table.specs.Places.{texts};
+ghost use Rattle.mo_names.specs.Order.{without, names_of_steps};
 ghost use Rattle.mo_order.specs.Parts.{occurring};
 
 use mo_name_table::NameTable;
+use mo_names::Names;
 use mo_num::{Memory, Sequence};
 use mo_syntax::Name;
 use std::alloc::Global;
 use std::marker::Model;
-
-/// A list of names with their places.
-pub(crate) type Names = Sequence<Name>;
 
 /// A list of declarations.
 pub(crate) type Steps = Sequence<Step>;
@@ -29,16 +26,17 @@ pub(crate) struct Step {
 }
 
 impl Model for Step {
+    ghost use Rattle.mo_name_table.specs.Places.{texts};
     ghost use Rattle.mo_names.specs.Order as order;
 
     ghost Value = { order.Step };
 
-    ghost view = { λ s. record { defines = s.defines; functions = s.functions; occurs = s.occurs } };
+    ghost view = { λ s. record { defines = texts s.defines; functions = texts s.functions; occurs = s.occurs } };
 }
 
 impl Step {
     pub(crate) fn new(defines: Names, functions: Names, occurs: Names) -> Self
-        ensures { result ≡ record { defines = defines; functions = functions; occurs = occurs } }
+        ensures { result ≡ record { defines = texts defines; functions = texts functions; occurs = occurs } }
     {
         Step {
             defines,
@@ -48,13 +46,13 @@ impl Step {
     }
 
     pub(crate) fn defines(&self) -> &[Name]
-        ensures { result.now ≡ self.now.defines }
+        ensures { texts result.now ≡ self.now.defines }
     {
         self.defines.as_slice()
     }
 
     pub(crate) fn functions(&self) -> &[Name]
-        ensures { result.now ≡ self.now.functions }
+        ensures { texts result.now ≡ self.now.functions }
     {
         self.functions.as_slice()
     }
@@ -80,8 +78,7 @@ pub(crate) fn append<T: Drop>(list: &mut Sequence<T>, more: Sequence<T>) -> Resu
 pub(crate) fn push_copy(alloc: Global, names: &mut Names, name: &Name) -> Result<(), Memory>
     ensures { OnOk result (names.new ≡ names.old ++ name.now ∷ []) }
 {
-    let copy = Name::new(alloc, name.place(), name.as_slice())?;
-    names.push(copy)
+    names.push(name.copy(alloc)?)
 }
 
 /// Adds copies of names.
@@ -98,18 +95,51 @@ pub(crate) fn push_copies(alloc: Global, names: &mut Names, more: &[Name]) -> Re
 pub(crate) fn one_name(alloc: Global, name: &Name) -> Result<Names, Memory>
     ensures { IfOk result (λ made. made ≡ name.now ∷ []) }
 {
-    let mut names = Sequence::new(alloc);
+    let mut names = Names::new(alloc);
     push_copy(alloc, &mut names, name)?;
     Ok(names)
 }
 
+/// Adds a copy of a name to a table.
+pub(crate) fn enter_copy(alloc: Global, table: &mut NameTable, name: &Name) -> Result<(), Memory>
+    ensures { OnOk result (table.new ≡ table.old ++ name.now.bytes ∷ []) }
+{
+    table.push(name.copy(alloc)?)
+}
+
+/// Adds copies of names to a table.
+pub(crate) fn enter_copies(
+    alloc: Global,
+    table: &mut NameTable,
+    names: &[Name],
+) -> Result<(), Memory>
+    ensures { OnOk result (table.new ≡ table.old ++ texts names.now) }
+{
+    for one in names {
+        enter_copy(alloc, table, one)?;
+    }
+    Ok(())
+}
+
 /// The table of names.
 pub(crate) fn table_of(alloc: Global, names: Names) -> Result<NameTable, Memory>
-    ensures { IfOk result (λ made. made ≡ names) }
+    ensures { IfOk result (λ made. made ≡ texts names) }
 {
     let mut table = NameTable::new(alloc);
     for name in names.into_vec() {
         table.push(name)?;
+    }
+    Ok(table)
+}
+
+/// The table of the names that the declarations of a list give meanings.
+pub(crate) fn names_of_steps(alloc: Global, steps: &[Step]) -> Result<NameTable, Memory>
+    ensures { IfOk result (λ made. made ≡ names_of_steps steps.now) }
+{
+    let mut table = NameTable::new(alloc);
+    for one in steps {
+        enter_copies(alloc, &mut table, one.defines())?;
+        enter_copies(alloc, &mut table, one.functions())?;
     }
     Ok(table)
 }
@@ -142,18 +172,6 @@ pub(crate) fn push_without(
         push_unless(alloc, names, bound, one)?;
     }
     Ok(())
-}
-
-/// The names that the declarations of a list give meanings.
-pub(crate) fn names_of_steps(alloc: Global, steps: &[Step]) -> Result<Names, Memory>
-    ensures { IfOk result (λ made. made ≡ names_of_steps steps.now) }
-{
-    let mut names = Sequence::new(alloc);
-    for one in steps {
-        push_copies(alloc, &mut names, one.defines())?;
-        push_copies(alloc, &mut names, one.functions())?;
-    }
-    Ok(names)
 }
 
 /// Adds the names that occur in the declarations and aren't bound.

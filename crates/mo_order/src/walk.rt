@@ -1,13 +1,14 @@
 //! The names that occur in expressions and declarations, and the lists of declarations in them.
 ghost use Rattle.std.specs.Prelude.{◌≡◌, ◌++◌, ◌∷◌, [], OnOk, map};
+ghost use Rattle.mo_name_table.specs.Places.{texts};
 ghost use Rattle.mo_names.specs.Order.{found, found_step, without, names_of_steps, list_of};
 ghost use Rattle.mo_order.specs.Parts.{found_member, found_case, found_field, free_of, lists_of, steps_of, step_lists, occurring};
 
-use crate::patterns::{parameter_values, pattern_names};
 use crate::step::{
-    Lists, Names, Step, Steps, append, names_of_steps, one_name, push_copy, push_occurring,
-    push_without, table_of,
+    Lists, Step, Steps, append, names_of_steps, one_name, push_copy, push_occurring, push_without,
+    table_of,
 };
+use mo_names::{Names, names_in_parameters, names_in_pattern};
 use mo_num::{Memory, Sequence};
 use mo_syntax::{Case, Declaration, DeclarationField, Expression, ExpressionField, Node};
 use std::alloc::Global;
@@ -26,7 +27,7 @@ impl Walk {
         occurs: Names,
         steps: &mut Steps,
     ) -> Result<(), Memory>
-        ensures { OnOk result (steps.new ≡ steps.old ++ record { defines = defines; functions = []; occurs = occurs } ∷ []) }
+        ensures { OnOk result (steps.new ≡ steps.old ++ record { defines = texts defines; functions = []; occurs = occurs } ∷ []) }
     {
         steps.push(Step::new(defines, Sequence::new(self.alloc), occurs))
     }
@@ -38,7 +39,7 @@ impl Walk {
         occurs: Names,
         steps: &mut Steps,
     ) -> Result<(), Memory>
-        ensures { OnOk result (steps.new ≡ steps.old ++ record { defines = []; functions = functions; occurs = occurs } ∷ []) }
+        ensures { OnOk result (steps.new ≡ steps.old ++ record { defines = []; functions = texts functions; occurs = occurs } ∷ []) }
     {
         steps.push(Step::new(Sequence::new(self.alloc), functions, occurs))
     }
@@ -55,7 +56,6 @@ impl Walk {
         ensures lists { OnOk result (lists.new ≡ lists.old ++ steps ∷ inner) }
     {
         let bound = names_of_steps(self.alloc, steps.as_slice())?;
-        let bound = table_of(self.alloc, bound)?;
         push_occurring(self.alloc, free, &bound, steps.as_slice())?;
         lists.push(steps)?;
         append(lists, inner)
@@ -106,7 +106,7 @@ impl Walk {
             }
             Expression::For(p, a, b) => {
                 self.expression(a.get(), free, lists)?;
-                let bound = pattern_names(self.alloc, p.get())?;
+                let bound = names_in_pattern(self.alloc, p.get())?;
                 self.scoped(bound, b.get(), free, lists)
             }
             Expression::Label(_, _, a) => self.expression(a.get(), free, lists),
@@ -121,14 +121,14 @@ impl Walk {
             Expression::Throw(a) => self.expression(a.get(), free, lists),
             Expression::Try(a, p, b) => {
                 self.expression(a.get(), free, lists)?;
-                let bound = pattern_names(self.alloc, p.get())?;
+                let bound = names_in_pattern(self.alloc, p.get())?;
                 self.scoped(bound, b.get(), free, lists)
             }
             Expression::Assert(a) => self.expression(a.get(), free, lists),
             Expression::Ignore(a) => self.expression(a.get(), free, lists),
             Expression::Debug(a) => self.expression(a.get(), free, lists),
             Expression::Function(parameters, _, _, body) => {
-                let bound = parameter_values(self.alloc, parameters)?;
+                let bound = names_in_parameters(self.alloc, parameters)?;
                 self.scoped(bound, body.get(), free, lists)
             }
             Expression::ObjectBlock(fields, _) => self.members(fields.as_slice(), free, lists),
@@ -169,7 +169,7 @@ impl Walk {
         free: &mut Names,
         lists: &mut Lists,
     ) -> Result<(), Memory>
-        ensures free { OnOk result (free.new ≡ free.old ++ without bound (found body.now).free) }
+        ensures free { OnOk result (free.new ≡ free.old ++ without (texts bound) (found body.now).free) }
         ensures lists { OnOk result (lists.new ≡ lists.old ++ (found body.now).lists) }
     {
         let mut inner = Sequence::new(self.alloc);
@@ -211,7 +211,7 @@ impl Walk {
         ensures free { OnOk result (free.new ≡ free.old ++ (found_case case.now).free) }
         ensures lists { OnOk result (lists.new ≡ lists.old ++ (found_case case.now).lists) }
     {
-        let bound = pattern_names(self.alloc, case.pattern.get())?;
+        let bound = names_in_pattern(self.alloc, case.pattern.get())?;
         self.scoped(bound, case.body.get(), free, lists)
     }
 
@@ -309,7 +309,7 @@ impl Walk {
         free: &mut Names,
         lists: &mut Lists,
     ) -> Result<(), Memory>
-        ensures free { OnOk result (free.new ≡ free.old ++ without bound (list_of (map found_member fields.now)).free) }
+        ensures free { OnOk result (free.new ≡ free.old ++ without (texts bound) (list_of (map found_member fields.now)).free) }
         ensures lists { OnOk result (lists.new ≡ lists.old ++ (list_of (map found_member fields.now)).lists) }
     {
         let mut inner = Sequence::new(self.alloc);
@@ -333,7 +333,7 @@ impl Walk {
         match declaration {
             Declaration::Let(p, a) => {
                 self.expression(a.get(), &mut occurs, lists)?;
-                let defines = pattern_names(self.alloc, p.get())?;
+                let defines = names_in_pattern(self.alloc, p.get())?;
                 self.push_defining(defines, occurs, steps)
             }
             Declaration::Var(name, _, a) => {
@@ -342,7 +342,7 @@ impl Walk {
                 self.push_defining(defines, occurs, steps)
             }
             Declaration::Func(name, _, parameters, _, _, body) => {
-                let bound = parameter_values(self.alloc, parameters)?;
+                let bound = names_in_parameters(self.alloc, parameters)?;
                 self.scoped(bound, body.get(), &mut occurs, lists)?;
                 let functions = one_name(self.alloc, name)?;
                 self.push_function(functions, occurs, steps)
@@ -351,7 +351,7 @@ impl Walk {
                 self.push_defining(Sequence::new(self.alloc), occurs, steps)
             }
             Declaration::Class(name, _, parameters, fields, _) => {
-                let bound = parameter_values(self.alloc, parameters)?;
+                let bound = names_in_parameters(self.alloc, parameters)?;
                 self.scoped_members(bound, fields.as_slice(), &mut occurs, lists)?;
                 let functions = one_name(self.alloc, name)?;
                 self.push_function(functions, occurs, steps)

@@ -1,7 +1,7 @@
 //! The names of small sources: which are bound, and the fault and its place where they are not.
 use crate::trees::tree_of;
-use mo_names::{NameFault, check_scopes};
-use mo_order::{check_order, resolve};
+use mo_names::{Finding, NameFault, find_names};
+use mo_order::{first_misplaced, resolve};
 use mo_syntax::Place;
 use std::alloc::Global;
 use std::test::Fail;
@@ -40,7 +40,7 @@ fn faults(rt: HostRuntime) -> Result<(), Fail> {
         ),
         (
             "import D \"mo:base/Deb\"; actor { }",
-            Some(NameFault::Unknown(at(9, 22))),
+            Some(NameFault::Unknown(at(7, 8))),
         ),
         (
             "actor { let a = 5; let a = 6 }",
@@ -94,46 +94,61 @@ fn faults(rt: HostRuntime) -> Result<(), Fail> {
     Ok(())
 }
 
-// Each source breaks two rules. The one that is named first in `Reserved`, `Twice`, `LabelClash`, `Unknown`, `UsedBeforeDefined` is answered, also
-// where it is broken behind the other.
+// Each source breaks two rules. That which is broken at the earlier place is answered.
 #[test]
 fn two_rules(rt: HostRuntime) -> Result<(), Fail> {
     for (source, fault) in [
         (
             "actor { let a = 1; let a = 2; let __b = 3 }",
-            NameFault::Reserved(at(34, 37)),
+            NameFault::Twice(at(23, 24)),
+        ),
+        (
+            "actor { let __b = 3; let a = 1; let a = 2 }",
+            NameFault::Reserved(at(12, 15)),
         ),
         (
             "actor { let x = y; let __b = 3 }",
-            NameFault::Reserved(at(23, 26)),
+            NameFault::Unknown(at(16, 17)),
         ),
         (
             "actor { let a = b; let b = __c }",
-            NameFault::Reserved(at(27, 30)),
+            NameFault::UsedBeforeDefined(at(16, 17)),
         ),
         (
             "actor { let o = { a = 1; a = 2 }; let b = 1; let b = 2 }",
-            NameFault::Twice(at(49, 50)),
+            NameFault::LabelClash(at(25, 26)),
+        ),
+        (
+            "actor { let b = 1; let b = 2; let o = { a = 1; a = 2 } }",
+            NameFault::Twice(at(23, 24)),
         ),
         (
             "actor { let x = y; let b = 1; let b = 2 }",
-            NameFault::Twice(at(34, 35)),
+            NameFault::Unknown(at(16, 17)),
         ),
         (
             "actor { let a = b; let b = 1; let b = 2 }",
-            NameFault::Twice(at(34, 35)),
+            NameFault::UsedBeforeDefined(at(16, 17)),
         ),
         (
             "actor { let x = y; let o = { a = 1; a = 2 } }",
-            NameFault::LabelClash(at(36, 37)),
+            NameFault::Unknown(at(16, 17)),
+        ),
+        (
+            "actor { let o = { a = 1; a = 2 }; let x = y }",
+            NameFault::LabelClash(at(25, 26)),
         ),
         (
             "actor { let x = z; let z = 1; let o = { a = 1; a = 2 } }",
-            NameFault::LabelClash(at(47, 48)),
+            NameFault::UsedBeforeDefined(at(16, 17)),
         ),
         (
             "actor { let a = b; let b = c }",
-            NameFault::Unknown(at(27, 28)),
+            NameFault::UsedBeforeDefined(at(16, 17)),
+        ),
+        (
+            "actor { let a = c; let d = b; let b = 1 }",
+            NameFault::Unknown(at(16, 17)),
         ),
     ] {
         let found = fault_of(rt.alloc(), source)?;
@@ -142,36 +157,66 @@ fn two_rules(rt: HostRuntime) -> Result<(), Fail> {
     Ok(())
 }
 
-// Each source has two names or more that break the rule. The arguments of a call come before its callee, the cases of a `switch` before its operand,
-// what a `for` goes over before its pattern, the label behind a dot before what stands before it, and public labels of an object before its declarations.
+// Each source breaks two rules at one name: Unknown comes before Twice, this one before LabelClash, and this one before Reserved.
+#[test]
+fn two_rules_at_a_place(rt: HostRuntime) -> Result<(), Fail> {
+    for (source, fault) in [
+        ("actor { let a = __b }", NameFault::Unknown(at(16, 19))),
+        ("actor { let a : __T = 1 }", NameFault::Unknown(at(16, 19))),
+        (
+            "import __D \"mo:base/Deb\"; actor { }",
+            NameFault::Unknown(at(7, 10)),
+        ),
+        (
+            "actor { system func f() { }; system func f() { } }",
+            NameFault::Unknown(at(20, 21)),
+        ),
+        (
+            "actor { type T = { a : Nat; a : Int } }",
+            NameFault::Twice(at(28, 29)),
+        ),
+    ] {
+        let found = fault_of(rt.alloc(), source)?;
+        assert!(rt; found == Some(fault), "{source}: {found:?}");
+    }
+    Ok(())
+}
+
+// Each source has two names or more that break the rule. The first is answered.
 #[test]
 fn two_names(rt: HostRuntime) -> Result<(), Fail> {
     for (source, fault) in [
         ("actor { let a = x + y }", NameFault::Unknown(at(16, 17))),
         ("actor { let a : T = x }", NameFault::Unknown(at(16, 17))),
-        ("actor { let a = f(x) }", NameFault::Unknown(at(18, 19))),
-        ("actor { let a = f<T>(x) }", NameFault::Unknown(at(21, 22))),
-        ("actor { let a = f<T>() }", NameFault::Unknown(at(18, 19))),
+        ("actor { let a = f(x) }", NameFault::Unknown(at(16, 17))),
+        ("actor { let a = f<T>(x) }", NameFault::Unknown(at(16, 17))),
+        (
+            "actor { let f = 1; let a = f<T>(x) }",
+            NameFault::Unknown(at(29, 30)),
+        ),
         (
             "actor { let a = switch x { case _ y } }",
-            NameFault::Unknown(at(34, 35)),
-        ),
-        (
-            "actor { let a = __f(__x) }",
-            NameFault::Reserved(at(20, 23)),
-        ),
-        (
-            "actor { let a = switch __x { case _ __y } }",
-            NameFault::Reserved(at(36, 39)),
+            NameFault::Unknown(at(23, 24)),
         ),
         (
             "actor { for (x : T in y) { } }",
-            NameFault::Unknown(at(22, 23)),
+            NameFault::Unknown(at(17, 18)),
         ),
-        ("actor { let a = __b._1_ }", NameFault::Reserved(at(20, 23))),
+        (
+            "actor { func f(__a : Nat) { let __b = 1 } }",
+            NameFault::Reserved(at(15, 18)),
+        ),
+        (
+            "actor { let a = 1; let b = a._1_._2_ }",
+            NameFault::Reserved(at(29, 32)),
+        ),
         (
             "actor { object o { let __a = 1; public let _1_ = 2 } }",
-            NameFault::Reserved(at(43, 46)),
+            NameFault::Reserved(at(23, 26)),
+        ),
+        (
+            "actor { object o { public let _1_ = 1; let __a = 2 } }",
+            NameFault::Reserved(at(30, 33)),
         ),
     ] {
         let found = fault_of(rt.alloc(), source)?;
@@ -180,8 +225,7 @@ fn two_names(rt: HostRuntime) -> Result<(), Fail> {
     Ok(())
 }
 
-// Each source binds two names twice, or has two clashes. A list of declarations comes before those in it, and in it values come before types, and
-// these before system functions. What stands in a type, in parameters or in an object comes before these.
+// Each source binds two names twice, or has two clashes. The first is answered, be it in an outer list or in an inner one, of values or of types.
 #[test]
 fn two_bindings(rt: HostRuntime) -> Result<(), Fail> {
     for (source, fault) in [
@@ -195,31 +239,39 @@ fn two_bindings(rt: HostRuntime) -> Result<(), Fail> {
         ),
         (
             "actor { func f() { let a = 1; let a = 2 }; let b = 1; let b = 2 }",
-            NameFault::Twice(at(58, 59)),
+            NameFault::Twice(at(34, 35)),
+        ),
+        (
+            "actor { let b = 1; let b = 2; func f() { let a = 1; let a = 2 } }",
+            NameFault::Twice(at(23, 24)),
         ),
         (
             "actor { func f() { let a = 1; do { let c = 1; let c = 2 }; let a = 2 } }",
-            NameFault::Twice(at(63, 64)),
+            NameFault::Twice(at(50, 51)),
         ),
         (
             "actor { type T = Nat; type T = Int; let b = 1; let b = 2 }",
-            NameFault::Twice(at(51, 52)),
+            NameFault::Twice(at(27, 28)),
         ),
         (
             "actor { system func preupgrade() { }; system func preupgrade() { }; type T = Nat; type T = Int }",
-            NameFault::Twice(at(87, 88)),
+            NameFault::Twice(at(50, 60)),
         ),
         (
             "actor { type T = { a : Nat; a : { b : Nat; b : Nat } } }",
-            NameFault::Twice(at(43, 44)),
+            NameFault::Twice(at(28, 29)),
         ),
         (
             "actor { func f(x : Nat, x : { a : Nat; a : Nat }) { } }",
-            NameFault::Twice(at(39, 40)),
+            NameFault::Twice(at(24, 25)),
         ),
         (
             "actor { let o = { a = 1; a = { b = 1; b = 2 } } }",
-            NameFault::LabelClash(at(38, 39)),
+            NameFault::LabelClash(at(25, 26)),
+        ),
+        (
+            "actor { let o = { a = { b = 1; b = 2 }; a = 1 } }",
+            NameFault::LabelClash(at(31, 32)),
         ),
     ] {
         let found = fault_of(rt.alloc(), source)?;
@@ -228,14 +280,13 @@ fn two_bindings(rt: HostRuntime) -> Result<(), Fail> {
     Ok(())
 }
 
-// Each source uses two values before they are defined. A list comes before those in it, a declaration before an earlier one of its list, and a
-// name of a declaration before a later one.
+// Each source uses two values before they are defined. The first use is answered.
 #[test]
 fn two_early_uses(rt: HostRuntime) -> Result<(), Fail> {
     for (source, fault) in [
         (
             "actor { let a = b; let c = d; let b = 1; let d = 2 }",
-            NameFault::UsedBeforeDefined(at(27, 28)),
+            NameFault::UsedBeforeDefined(at(16, 17)),
         ),
         (
             "actor { let a = (b, c); let b = 1; let c = 2 }",
@@ -255,7 +306,15 @@ fn two_early_uses(rt: HostRuntime) -> Result<(), Fail> {
         ),
         (
             "actor { let f = func () { let a = b; let b = 1 }; let c = d; let d = 1 }",
-            NameFault::UsedBeforeDefined(at(58, 59)),
+            NameFault::UsedBeforeDefined(at(34, 35)),
+        ),
+        (
+            "actor { let c = d; let f = func () { let a = b; let b = 1 }; let d = 1 }",
+            NameFault::UsedBeforeDefined(at(16, 17)),
+        ),
+        (
+            "actor { let a = f() + b; func f() : Nat { b }; let b = 1 }",
+            NameFault::UsedBeforeDefined(at(16, 17)),
         ),
     ] {
         let found = fault_of(rt.alloc(), source)?;
@@ -264,14 +323,23 @@ fn two_early_uses(rt: HostRuntime) -> Result<(), Fail> {
     Ok(())
 }
 
+// The names of a program are found without regard to their order, and its order without regard to what names mean.
 #[test]
 fn both_parts(rt: HostRuntime) -> Result<(), Fail> {
     let alloc = rt.alloc();
-    let early = tree_of(alloc, "actor { let a = b; let b = 5 }")?;
-    assert!(rt; check_scopes(alloc, &early).is_ok());
-    assert!(rt; check_order(alloc, &early).is_err());
-    let unknown = tree_of(alloc, "actor { let a = b }")?;
-    assert!(rt; check_scopes(alloc, &unknown).is_err());
-    assert!(rt; check_order(alloc, &unknown).is_ok());
+    for (source, kept, early) in [
+        ("actor { let a = b; let b = 5 }", true, Some(at(16, 17))),
+        ("actor { let a = b }", false, None),
+    ] {
+        let tree = tree_of(alloc, source)?;
+        let mut is_kept = true;
+        for finding in find_names(alloc, &tree)?.as_slice() {
+            if let Finding::Breach(_) = finding {
+                is_kept = false;
+            }
+        }
+        assert!(rt; is_kept == kept, "{source}");
+        assert!(rt; first_misplaced(alloc, &tree)? == early, "{source}");
+    }
     Ok(())
 }

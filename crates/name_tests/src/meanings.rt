@@ -66,18 +66,17 @@ fn values(rt: HostRuntime) -> Result<(), Fail> {
     Ok(())
 }
 
-// The uses in the operand of a `switch` stand behind those in its cases.
 #[test]
 fn variables_of_patterns(rt: HostRuntime) -> Result<(), Fail> {
     for (source, wanted) in [
         (
             "actor { func f(x : ?Nat) : Nat { switch x { case null 0; case (?x) x } } }",
-            [NAT, NAT, Meaning::Value(2), Meaning::Value(1)].as_slice(),
+            [NAT, NAT, Meaning::Value(1), Meaning::Value(2)].as_slice(),
         ),
         // Each case has variables of its own.
         (
             "actor { func f(x : Nat) { switch x { case (a) { ignore a }; case (b) { ignore b } } } }",
-            [NAT, Meaning::Value(2), Meaning::Value(2), Meaning::Value(1)].as_slice(),
+            [NAT, Meaning::Value(1), Meaning::Value(2), Meaning::Value(2)].as_slice(),
         ),
         (
             "actor { let (a, b) = (1, 2); let { c; d = e } = { c = b; d = a }; let f = (c, e) }",

@@ -252,14 +252,6 @@ fn reserved(rt: HostRuntime) -> Result<(), Fail> {
             Some(NameFault::Reserved(at(25, 28))),
         ),
         (
-            "actor { let a = __b }",
-            Some(NameFault::Reserved(at(16, 19))),
-        ),
-        (
-            "actor { let a : __T = 1 }",
-            Some(NameFault::Reserved(at(16, 19))),
-        ),
-        (
             "actor { type T = { _1_ : Nat } }",
             Some(NameFault::Reserved(at(19, 22))),
         ),

@@ -7,4 +7,4 @@ use Rattle.mo_name_table.proofs.table.keep.Goals as goal
 pub returns-in-Some : goal.returns-in-Some
 returns-in-Some c = λ x.
     ap (λ es. unwrap_or (lookup (λ k. bytes_eq x k.items) es) None) (c.get_mut.follows.holds c.args.place).0
-    ∙ written_name (λ k. k.items) c.args.places.now.entries c.as_slice.result.now c.args.name.now c.args.place x c.as_slice.ensures c.requires
+    ∙ written_name (λ k. k.items) c.args.places.now.entries c.as_slice.result.now c.args.name.now.bytes c.args.place x c.as_slice.ensures c.requires

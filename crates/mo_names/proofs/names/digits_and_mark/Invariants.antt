@@ -1,5 +1,5 @@
 use Rattle.std.proofs.Common.{◌≡◌, drop}
-use Rattle.mo_names.specs.Rules.{digits_and_mark}
+use Rattle.mo_names.specs.Findings.{digits_and_mark}
 use Rattle.mo_names.proofs.names.digits_and_mark.Given as goal
 
 abbrev pub invariant-loop-index : goal.invariant-loop-index

@@ -1,6 +1,7 @@
 use Rattle.std.proofs.Common.{◌∙◌}
+use Rattle.mo_name_table.specs.Places.{texts}
 use Rattle.mo_name_table.proofs.Finding.{found}
 use Rattle.mo_name_table.proofs.table.NameTable.find.Goals as goal
 
 pub returns-clause-within : goal.returns-clause-within
-returns-clause-within c = found c.place_of.result c.self.inside.names.items c.args.self.now c.args.name.now (c.place_of.ensures ∙ c.self.invariant.0 c.args.name.now) c.self.view_is
+returns-clause-within c = found c.place_of.result (texts c.self.inside.names.items) c.args.self.now c.args.name.now.bytes (c.place_of.ensures ∙ c.self.invariant.0 c.args.name.now.bytes) c.self.view_is

@@ -1,6 +1,6 @@
 use Rattle.std.proofs.Common.{◌≡◌, ◌++◌, drop}
 use Rattle.std.specs.List.{flat_map}
-use Rattle.mo_names.specs.ProgramRules.{field_systems}
+use Rattle.mo_names.specs.ProgramNames.{field_systems}
 use Rattle.mo_names.proofs.walk.Walk.system_names.Given as goal
 
 abbrev pub invariant-loop-one : goal.invariant-loop-one
