@@ -1,0 +1,52 @@
+//! The tokens of a source.
+use crate::stop::Stop;
+use mo_lexer::lex;
+use mo_syntax::{Mark, TokenKind};
+use std::alloc::{AllocError, Global};
+
+/// A letter for each token and its text (identifier, word, number, character, text, mark, angle bracket, tag mark), or
+/// the fault.
+pub(crate) fn lex_source(alloc: Global, source: &[u8]) -> Result<String, Stop> {
+    let mut out = String::new(alloc);
+    match lex(alloc, source) {
+        Err(fault) => out.push_str(format!(in alloc; "{fault:?}")?.as_str())?,
+        Ok(tokens) => {
+            for token in tokens.as_slice() {
+                put_token(alloc, &mut out, &token.kind)?;
+            }
+        }
+    }
+    out.push('\n')?;
+    Ok(out)
+}
+
+fn put_token(alloc: Global, out: &mut String, kind: &TokenKind) -> Result<(), AllocError> {
+    match kind {
+        TokenKind::Identifier(name) => put_bytes(alloc, out, 'i', name.as_slice()),
+        TokenKind::Reserved(word) => put_bytes(alloc, out, 'w', word.text()),
+        TokenKind::Number(n) => out.push_str(format!(in alloc; "n{n} ")?.as_str()),
+        TokenKind::Character(c) => out.push_str(format!(in alloc; "c{c} ")?.as_str()),
+        TokenKind::Text(bytes) => put_bytes(alloc, out, 't', bytes.as_slice()),
+        TokenKind::Mark(Mark::AngleOpen | Mark::AngleClose) => out.push_str("angle "),
+        TokenKind::Mark(Mark::Tag) => out.push_str("tag "),
+        TokenKind::Mark(mark) => put_bytes(alloc, out, 'm', mark.text()),
+    }
+}
+
+// The letter and the bytes, those that are no visible characters as numbers.
+fn put_bytes(
+    alloc: Global,
+    out: &mut String,
+    letter: char,
+    bytes: &[u8],
+) -> Result<(), AllocError> {
+    out.push(letter)?;
+    for byte in bytes {
+        if byte.is_ascii_graphic() {
+            out.push(*byte as char)?;
+        } else {
+            out.push_str(format!(in alloc; "<{byte}>")?.as_str())?;
+        }
+    }
+    out.push(' ')
+}
