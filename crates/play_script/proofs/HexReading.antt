@@ -1,8 +1,9 @@
 -- Hexadecimal words are read as the library reads them.
-use Rattle.std.proofs.Common.{◌≡◌, ℕ, ◌+◌, ◌*◌, ◌%◌, ◌==◌, true, false, Bool, List, [], ◌∷◌, length, Option, Some, None, Result, Ok, Err, refl, sym, ap, ◌∙◌, arith}
-use Rattle.std.proofs.lemmas.Bool.{cases_eq, if_true, if_false}
+use Rattle.std.proofs.Common.{◌≡◌, ℕ, ◌+◌, ◌*◌, ◌%◌, List, [], ◌∷◌, length, inl, inr, Option, Some, None, ◌⊎◌, Result, Ok, Err, refl, sym, ap, ◌∙◌, arith}
+use Rattle.std.proofs.lemmas.Bool.{cases_lt}
 use Rattle.std.proofs.lemmas.Bool.Decides.{nat_tests}
 use Rattle.hex.specs.Hex.{decode_of, decode_pairs, digit_or_error, hex_digit_value, ◌>>=◌}
+use Rattle.hex.proofs.HexLemmas.{decode_of-even}
 use Rattle.hex.specs.declared.error.FromHexError.{FromHexError}
 use Rattle.hex.specs.declared.error.FromHexError.TheVariants.{OddLength}
 use Rattle.play_script.specs.Words.{digit_value, byte_of, before_all, hex_bytes}
@@ -44,11 +45,20 @@ odd_is_none (digit ∷ []) odd = refl
 odd_is_none (high ∷ low ∷ rest) odd =
     ap (before_all (byte_of (digit_value high) (digit_value low))) (odd_is_none rest (omega arith)) ∙ nothing_behind (byte_of (digit_value high) (digit_value low))
 
+two_ways : (n : ℕ) → (n % 2 ≡ 1) ⊎ (n % 2 ≡ 0)
+two_ways n = elim (cases_lt (n % 2) 1) [
+  | inl below ↦ inr (omega arith)
+  | inr above ↦ inl (omega arith)
+]
+
+odd_is_refused : (text : List ℕ) → length text % 2 ≡ 1 → decode_of text ≡ Err OddLength
+odd_is_refused text odd = grind (arith)
+
 pub same_value : (text : List ℕ) → value_of (decode_of text) ≡ hex_bytes text
-same_value text = elim (cases_eq (length text % 2) 1) [
-      | inl odd ↦ ap value_of (if_true (length text % 2 == 1) (Err OddLength) (decode_pairs 0 text) (grind (arith, nat_tests))) ∙ sym (odd_is_none text odd)
-      | inr even ↦ ap value_of (if_false (length text % 2 == 1) (Err OddLength) (decode_pairs 0 text) (grind (arith, nat_tests))) ∙ same_pairs 0 text
-    ]
+same_value text = elim (two_ways (length text)) [
+  | inl odd ↦ ap value_of (odd_is_refused text odd) ∙ sym (odd_is_none text odd)
+  | inr even ↦ ap value_of (decode_of-even text even) ∙ same_pairs 0 text
+]
 
 pub read_value : (text bytes : List ℕ) → decode_of text ≡ Ok bytes → Some bytes ≡ hex_bytes text
 read_value text bytes is = sym (ap value_of is) ∙ same_value text

@@ -81,7 +81,9 @@ fn read_hex(alloc: Global, word: &[u8]) -> Result<Option<Bytes>, Memory>
 {
     match hex::decode(alloc, word) {
         Ok(bytes) => Ok(Some(Bytes::from_vec(bytes))),
-        Err(FromHexError::OutOfMemory) => Err(Memory),
-        Err(_) => Ok(None),
+        Err(error) => match error {
+            FromHexError::OutOfMemory => Err(Memory),
+            _ => Ok(None),
+        },
     }
 }
