@@ -105,7 +105,7 @@ impl Types {
 
     fn declare_parameter(&mut self, parameter: &TypeParameter) -> Result<(), Stop> {
         let bound = match &parameter.bound {
-            Some(bound) => self.add(bound.get())?,
+            Some(bound) => self.add(MOST_LEVELS, bound.get())?,
             None => self.intern(Node::Any)?,
         };
         let number = self.parameters;
@@ -144,29 +144,31 @@ impl Types {
         self.graph.intern(node).map_err(refused)
     }
 
-    fn add(&mut self, written: &TypeExpression) -> Result<TypeId, Stop> {
-        let parts = self.add_parts(MOST_LEVELS, written)?;
-        self.with_parts(written, parts.as_slice())
-    }
-
     fn node(&mut self, written: &TypeExpression) -> Result<Node, Stop> {
         let parts = self.add_parts(MOST_LEVELS, written)?;
         self.node_with_parts(written, parts.as_slice())
     }
 
+    // The type, with types in it of fewer than so many levels.
+    #[cycle(parts)]
+    fn add(&mut self, levels: usize, written: &TypeExpression) -> Result<TypeId, Stop> {
+        if levels == 0 {
+            return Err(Stop::Usage);
+        }
+        let parts = self.add_parts(levels - 1, written)?;
+        self.with_parts(written, parts.as_slice())
+    }
+
     // The types of the parts.
+    #[cycle(parts)]
     fn add_parts(
         &mut self,
         levels: usize,
         written: &TypeExpression,
     ) -> Result<Sequence<TypeId>, Stop> {
-        if levels == 0 {
-            return Err(Stop::Usage);
-        }
         let mut ids = Sequence::new(self.alloc);
         for part in parts_of(self.alloc, written)?.as_slice() {
-            let inner = self.add_parts(levels - 1, part)?;
-            ids.push(self.with_parts(part, inner.as_slice())?)?;
+            ids.push(self.add(levels, part)?)?;
         }
         Ok(ids)
     }
