@@ -1,20 +1,23 @@
 //! The tokens of a source.
+use crate::reading::{kinds_of, tokens_of};
 use crate::stop::Stop;
-use mo_lexer::lex;
 use mo_syntax::{Mark, TokenKind};
 use std::alloc::{AllocError, Global};
 
 /// A letter for each token and its text (identifier, word, number, character, text, mark, angle bracket, tag mark), or
 /// the fault.
 pub(crate) fn lex_source(alloc: Global, source: &[u8]) -> Result<String, Stop> {
+    match kinds_of(alloc, source)? {
+        Ok(kinds) => Ok(token_line(alloc, kinds.as_slice())?),
+        Err(line) => Ok(line),
+    }
+}
+
+/// A letter for each of the tokens and its text.
+pub(crate) fn token_line(alloc: Global, kinds: &[TokenKind]) -> Result<String, AllocError> {
     let mut out = String::new(alloc);
-    match lex(alloc, source) {
-        Err(fault) => out.push_str(format!(in alloc; "{fault:?}")?.as_str())?,
-        Ok(tokens) => {
-            for token in tokens.as_slice() {
-                put_token(alloc, &mut out, &token.kind)?;
-            }
-        }
+    for kind in kinds {
+        put_token(alloc, &mut out, kind)?;
     }
     out.push('\n')?;
     Ok(out)
@@ -49,4 +52,34 @@ fn put_bytes(
         }
     }
     out.push(' ')
+}
+
+/// Where each token starts and ends.
+pub(crate) fn token_places(alloc: Global, source: &[u8]) -> Result<String, Stop> {
+    let tokens = match tokens_of(alloc, source)? {
+        Ok(tokens) => tokens,
+        Err(line) => return Ok(line),
+    };
+    let mut out = String::new(alloc);
+    for token in tokens.as_slice() {
+        let start = token.start;
+        let end = token.end;
+        out.push_str(format!(in alloc; "{start}-{end} ")?.as_str())?;
+    }
+    out.push('\n')?;
+    Ok(out)
+}
+
+/// How many tokens there are, and where the last one starts.
+pub(crate) fn token_count(alloc: Global, source: &[u8]) -> Result<String, Stop> {
+    let tokens = match tokens_of(alloc, source)? {
+        Ok(tokens) => tokens,
+        Err(line) => return Ok(line),
+    };
+    let count = tokens.len();
+    let start = match tokens.as_slice() {
+        [.., last] => last.start,
+        [] => 0,
+    };
+    Ok(format!(in alloc; "{count} tokens, the last from {start} on\n")?)
 }
