@@ -5,25 +5,9 @@
 //! there was no memory.
 #![tactic(auto)]
 
-mod arithmetic;
-mod built_in;
-mod graphs;
-mod headers;
-mod leb;
-mod lexing;
-mod messages;
-mod parts;
-mod principals;
-mod stop;
-mod subtyping;
-mod text;
-mod type_text;
-mod types;
-mod values;
-
-use crate::stop::Stop;
 use mo_num::Bytes;
 use outer::{Content, Files, RealFiles};
+use probe_base::Stop;
 use std::alloc::Global;
 use std::env;
 use std::process::ExitCode;
@@ -58,34 +42,11 @@ fn read_words(
     Ok((command, arguments))
 }
 
-// What the command answers.
+// What the first crate of commands that has this one answers.
 fn answer(alloc: Global, command: &str, arguments: &[Bytes]) -> Result<String, Stop> {
-    match arguments {
-        [source] if command == "lex" => lexing::lex_source(alloc, source.as_slice()),
-        _ if command == "arith" => arithmetic::answer(alloc, arguments),
-        _ if command == "neg" => arithmetic::negation(alloc, arguments),
-        _ if command == "leb" => leb::write_unsigned(alloc, arguments),
-        _ if command == "sleb" => leb::write_signed(alloc, arguments),
-        _ if command == "read_leb" => leb::read_unsigned(alloc, arguments),
-        _ if command == "read_sleb" => leb::read_signed(alloc, arguments),
-        _ if command == "principal" => principals::of_text(alloc, arguments),
-        _ if command == "principal_of" => principals::of_bytes(alloc, arguments),
-        _ if command == "bytes" => principals::grown(alloc, arguments),
-        _ if command == "list" => principals::pushed(alloc, arguments),
-        _ if command == "label" => subtyping::label(alloc, arguments),
-        _ if command == "same" => graphs::are_same(alloc, arguments),
-        _ if command == "graph" => graphs::answers(alloc, arguments),
-        _ if command == "subtype" => subtyping::answer(alloc, arguments),
-        _ if command == "pair_count" => subtyping::pair_count(alloc, arguments),
-        _ if command == "shows" => subtyping::shows(alloc, arguments),
-        _ if command == "header" => headers::write(alloc, arguments),
-        _ if command == "read_header" => headers::read(alloc, arguments),
-        _ if command == "equal" => headers::are_equal(alloc, arguments),
-        _ if command == "decode" => messages::read(alloc, arguments),
-        _ if command == "encode" => messages::write(alloc, arguments),
-        _ if command == "are_values" => messages::are_values(alloc, arguments),
-        _ if command == "read_values" => messages::read_values(alloc, arguments),
-        _ => Err(Stop::Usage),
+    match front_probe::answer(alloc, command, arguments) {
+        Err(Stop::Usage) => types_probe::answer(alloc, command, arguments),
+        answer => answer,
     }
 }
 
