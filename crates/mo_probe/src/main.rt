@@ -5,8 +5,17 @@
 //! there was no memory.
 #![tactic(auto)]
 
+mod calculation;
+mod execution;
+mod laying;
 mod lexing;
+mod loading;
+mod memories;
+mod number;
+mod reading;
 mod stop;
+mod validity;
+mod writing;
 
 use crate::stop::Stop;
 use mo_num::Bytes;
@@ -49,6 +58,31 @@ fn read_words(
 fn answer(alloc: Global, command: &str, arguments: &[Bytes]) -> Result<String, Stop> {
     match arguments {
         [source] if command == "lex" => lexing::lex_source(alloc, source.as_slice()),
+        [bytes] if command == "read" => reading::read_module(alloc, bytes.as_slice()),
+        [bytes] if command == "write" => writing::write_module(alloc, bytes.as_slice()),
+        [bytes] if command == "validate" => validity::validate_module(alloc, bytes.as_slice()),
+        [bytes] if command == "layout" => laying::lay_module(alloc, bytes.as_slice()),
+        [name, operands @ ..] if command == "calculate" => calculation::calculate(
+            alloc,
+            name.as_slice(),
+            operands,
+        ),
+        [limits, script, files @ ..] if command == "execute" => execution::play_under(
+            alloc,
+            limits.as_slice(),
+            script.as_slice(),
+            files,
+        ),
+        [pages, files @ ..] if command == "load" => loading::load_modules(
+            alloc,
+            pages.as_slice(),
+            files,
+        ),
+        [limit, words @ ..] if command == "pages" => memories::try_pages(
+            alloc,
+            limit.as_slice(),
+            words,
+        ),
         _ => Err(Stop::Usage),
     }
 }
