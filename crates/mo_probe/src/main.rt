@@ -7,6 +7,7 @@
 
 mod calculation;
 mod execution;
+mod kernels;
 mod laying;
 mod lexing;
 mod loading;
@@ -58,6 +59,13 @@ fn read_words(
 fn answer(alloc: Global, command: &str, arguments: &[Bytes]) -> Result<String, Stop> {
     match arguments {
         [source] if command == "lex" => lexing::lex_source(alloc, source.as_slice()),
+        [left, right] if command == "differences" => kernels::find_differences(
+            alloc,
+            left.as_slice(),
+            right.as_slice(),
+        ),
+        [bytes] if command == "prefixes" => kernels::find_prefixes(alloc, bytes.as_slice()),
+        [bytes] if command == "starts" => kernels::find_starts(alloc, bytes.as_slice()),
         [bytes] if command == "read" => reading::read_module(alloc, bytes.as_slice()),
         [bytes] if command == "write" => writing::write_module(alloc, bytes.as_slice()),
         [bytes] if command == "validate" => validity::validate_module(alloc, bytes.as_slice()),
