@@ -3,8 +3,6 @@
 
 mod compile;
 mod help;
-#[cfg(test)]
-mod host_tests;
 mod line;
 mod replay;
 mod run;

@@ -45,7 +45,11 @@ fn read_words(
 // What the first crate of commands that has this one answers.
 fn answer(alloc: Global, command: &str, arguments: &[Bytes]) -> Result<String, Stop> {
     match front_probe::answer(alloc, command, arguments) {
-        Err(Stop::Usage) => types_probe::answer(alloc, command, arguments),
+        Err(Stop::Usage) => {}
+        answer => return answer,
+    }
+    match types_probe::answer(alloc, command, arguments) {
+        Err(Stop::Usage) => modules_probe::answer(alloc, command, arguments),
         answer => answer,
     }
 }
