@@ -3,7 +3,7 @@
 use mo_lexer::lex;
 use mo_num::Bytes;
 use mo_parser::{ParseFault, parse};
-use mo_syntax::tokens;
+use mo_tokens::tokens;
 use mo_unparse::unparse;
 use std::alloc::Global;
 use std::process::Abort;

@@ -1,8 +1,9 @@
 //! The tokens of small trees, each written out by hand.
 use mo_syntax::{
     Actor, ActorField, Declaration, Expression, Items, Literal, Mark, Name, Node, Place, TokenKind,
-    Tree, Word, tokens,
+    Tree, Word,
 };
+use mo_tokens::tokens;
 use std::alloc::Global;
 use std::test::Fail;
 
