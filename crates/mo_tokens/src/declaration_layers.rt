@@ -1,9 +1,10 @@
 //! The layers of declarations, and of cases and fields.
 ghost use Rattle.std.specs.Prelude.{◌≡◌, ◌++◌, ◌∷◌, [], OnOk, map, option_map};
-ghost use Rattle.mo_syntax.specs.Writing.{angles, annotation, braces, semicolons};
+ghost use Rattle.mo_syntax.specs.Writing as writing;
+ghost use Rattle.mo_syntax.specs.Writing.{angles, annotation, braces, led, marked, semicolons};
 ghost use Rattle.mo_syntax.specs.TypeGrammar.{type_parameters_tokens, type_tokens};
 ghost use Rattle.mo_syntax.specs.PatternGrammar.{parameters_tokens, pattern_tokens};
-ghost use Rattle.mo_syntax.specs.ExpressionGrammar.{case_tokens, declaration_field_tokens, declaration_tokens, expression_field_tokens, expression_tokens, signature};
+ghost use Rattle.mo_syntax.specs.ExpressionGrammar.{case_tokens, declaration_field_tokens, declaration_tokens, expression_field_tokens, expression_tokens, signature, visibility_tokens};
 ghost use Rattle.mo_syntax.specs.declared.mark.Mark.{Mark};
 ghost use Rattle.mo_syntax.specs.declared.token.TokenKind.{TokenKind};
 ghost use Rattle.mo_syntax.specs.declared.word.Word.{Word};
@@ -18,7 +19,7 @@ use crate::writer::Writer;
 use mo_num::Memory;
 use mo_syntax::{
     Case, Declaration, DeclarationField, Expression, ExpressionField, Items, Kinds, Mark, Name,
-    Node, Parameters, Pattern, TypeExpression, TypeParameter, Word,
+    Node, Parameters, Pattern, TypeExpression, TypeParameter, Visibility, Word,
 };
 use std::alloc::Global;
 
@@ -33,8 +34,8 @@ impl<F: Fn(Global, usize, Part<'_>, &mut Kinds) -> Result<(), Memory>> Writer<F>
         ensures { OnOk result (out.new ≡ out.old ++ declaration_tokens declaration.now) }
     {
         match declaration {
-            Declaration::Let(p, a) => self.put_let(p.get(), a.get(), out),
-            Declaration::Var(name, kind, a) => self.put_var(name, kind, a.get(), out),
+            Declaration::Let(p, a) => self.put_let(p, a, out),
+            Declaration::Var(name, kind, a) => self.put_var(name, kind, a, out),
             Declaration::Func(name, generics, parameters, annotation, equal_sign, body) =>
                 self.put_func(
                     name,
@@ -42,39 +43,33 @@ impl<F: Fn(Global, usize, Part<'_>, &mut Kinds) -> Result<(), Memory>> Writer<F>
                     parameters,
                     annotation,
                     *equal_sign,
-                    body.get(),
+                    body,
                     out,
                 ),
             Declaration::TypeAlias(name, names, kind) => self.put_type_alias(
-                name,
-                names,
-                kind.get(),
-                out,
+                name, names, kind, out,
             ),
             Declaration::Class(name, generics, parameters, fields, last) => self.put_class(
-                name,
-                generics,
-                parameters,
-                fields.as_slice(),
-                *last,
-                out,
+                name, generics, parameters, fields, *last, out,
             ),
             Declaration::NamedObject(name, fields, last) => self.put_named_object(
-                name,
-                fields.as_slice(),
-                *last,
-                out,
+                name, fields, *last, out,
             ),
-            Declaration::Evaluate(a) => self.put(a.get(), out),
+            Declaration::Evaluate(a) => self.put(a, out),
         }
     }
 
-    fn put_let(&self, p: &Pattern, a: &Expression, out: &mut Kinds) -> Result<(), Memory>
+    fn put_let(
+        &self,
+        p: &Node<Pattern>,
+        a: &Node<Expression>,
+        out: &mut Kinds,
+    ) -> Result<(), Memory>
         requires { Writes self.now.depth (F.pre self.now.parts) (F.post self.now.parts) }
-        ensures { OnOk result (out.new ≡ out.old ++ TokenKind.Reserved Word.Let ∷ pattern_tokens p.now ++ TokenKind.Mark Mark.EqualSign ∷ expression_tokens a.now) }
+        ensures { OnOk result (out.new ≡ out.old ++ (TokenKind.Reserved Word.Let ∷ pattern_tokens p.now ++ TokenKind.Mark Mark.EqualSign ∷ expression_tokens a.now)) }
     {
         put_word(out, Word::Let)?;
-        put_pattern(self.alloc, p, out)?;
+        put_pattern(self.alloc, p.get(), out)?;
         self.put_mark_and(Mark::EqualSign, a, out)
     }
 
@@ -82,11 +77,11 @@ impl<F: Fn(Global, usize, Part<'_>, &mut Kinds) -> Result<(), Memory>> Writer<F>
         &self,
         name: &Name,
         kind: &Option<Node<TypeExpression>>,
-        a: &Expression,
+        a: &Node<Expression>,
         out: &mut Kinds,
     ) -> Result<(), Memory>
         requires { Writes self.now.depth (F.pre self.now.parts) (F.post self.now.parts) }
-        ensures { OnOk result (out.new ≡ out.old ++ TokenKind.Reserved Word.Var ∷ TokenKind.Identifier name.now ∷ annotation (option_map type_tokens kind.now) ++ TokenKind.Mark Mark.EqualSign ∷ expression_tokens a.now) }
+        ensures { OnOk result (out.new ≡ out.old ++ (TokenKind.Reserved Word.Var ∷ TokenKind.Identifier name.now ∷ annotation (option_map type_tokens kind.now) ++ TokenKind.Mark Mark.EqualSign ∷ expression_tokens a.now)) }
     {
         self.put_word_name(Word::Var, name, out)?;
         put_annotation(self.alloc, kind, out)?;
@@ -100,11 +95,11 @@ impl<F: Fn(Global, usize, Part<'_>, &mut Kinds) -> Result<(), Memory>> Writer<F>
         parameters: &Parameters,
         annotation: &Option<Node<TypeExpression>>,
         equal_sign: bool,
-        body: &Expression,
+        body: &Node<Expression>,
         out: &mut Kinds,
     ) -> Result<(), Memory>
         requires { Writes self.now.depth (F.pre self.now.parts) (F.post self.now.parts) }
-        ensures { OnOk result (out.new ≡ out.old ++ TokenKind.Reserved Word.Func ∷ TokenKind.Identifier name.now ∷ type_parameters_tokens generics.now ++ (signature (parameters_tokens parameters.now) (option_map type_tokens annotation.now) equal_sign ++ expression_tokens body.now)) }
+        ensures { OnOk result (out.new ≡ out.old ++ (TokenKind.Reserved Word.Func ∷ TokenKind.Identifier name.now ∷ type_parameters_tokens generics.now ++ (signature (parameters_tokens parameters.now) (option_map type_tokens annotation.now) equal_sign ++ expression_tokens body.now))) }
     {
         self.put_word_name(Word::Func, name, out)?;
         put_type_parameters(self.alloc, generics, out)?;
@@ -116,16 +111,16 @@ impl<F: Fn(Global, usize, Part<'_>, &mut Kinds) -> Result<(), Memory>> Writer<F>
         &self,
         name: &Name,
         names: &Option<Items<Name>>,
-        kind: &TypeExpression,
+        kind: &Node<TypeExpression>,
         out: &mut Kinds,
     ) -> Result<(), Memory>
         requires { Writes self.now.depth (F.pre self.now.parts) (F.post self.now.parts) }
-        ensures { OnOk result (out.new ≡ out.old ++ TokenKind.Reserved Word.TypeWord ∷ TokenKind.Identifier name.now ∷ angles (option_map (map (λ y. TokenKind.Identifier y ∷ [])) names.now) ++ TokenKind.Mark Mark.EqualSign ∷ type_tokens kind.now) }
+        ensures { OnOk result (out.new ≡ out.old ++ (TokenKind.Reserved Word.TypeWord ∷ TokenKind.Identifier name.now ∷ angles (option_map (map (λ y. TokenKind.Identifier y ∷ [])) names.now) ++ TokenKind.Mark Mark.EqualSign ∷ type_tokens kind.now)) }
     {
         self.put_word_name(Word::TypeWord, name, out)?;
         put_names(self.alloc, names, out)?;
         put_mark(out, Mark::EqualSign)?;
-        put_type(self.alloc, kind, out)
+        put_type(self.alloc, kind.get(), out)
     }
 
     fn put_class(
@@ -133,12 +128,12 @@ impl<F: Fn(Global, usize, Part<'_>, &mut Kinds) -> Result<(), Memory>> Writer<F>
         name: &Name,
         generics: &Option<Items<TypeParameter>>,
         parameters: &Parameters,
-        fields: &[Node<DeclarationField>],
+        fields: &Items<Node<DeclarationField>>,
         last: bool,
         out: &mut Kinds,
     ) -> Result<(), Memory>
         requires { Writes self.now.depth (F.pre self.now.parts) (F.post self.now.parts) }
-        ensures { OnOk result (out.new ≡ out.old ++ TokenKind.Reserved Word.Class ∷ TokenKind.Identifier name.now ∷ type_parameters_tokens generics.now ++ (parameters_tokens parameters.now ++ braces (semicolons (map declaration_field_tokens fields.now) last))) }
+        ensures { OnOk result (out.new ≡ out.old ++ (TokenKind.Reserved Word.Class ∷ TokenKind.Identifier name.now ∷ type_parameters_tokens generics.now ++ (parameters_tokens parameters.now ++ braces (semicolons (map declaration_field_tokens fields.now) last)))) }
     {
         self.put_word_name(Word::Class, name, out)?;
         put_type_parameters(self.alloc, generics, out)?;
@@ -149,7 +144,7 @@ impl<F: Fn(Global, usize, Part<'_>, &mut Kinds) -> Result<(), Memory>> Writer<F>
     fn put_named_object(
         &self,
         name: &Name,
-        fields: &[Node<DeclarationField>],
+        fields: &Items<Node<DeclarationField>>,
         last: bool,
         out: &mut Kinds,
     ) -> Result<(), Memory>
@@ -165,9 +160,21 @@ impl<F: Fn(Global, usize, Part<'_>, &mut Kinds) -> Result<(), Memory>> Writer<F>
         requires { Writes self.now.depth (F.pre self.now.parts) (F.post self.now.parts) }
         ensures { OnOk result (out.new ≡ out.old ++ case_tokens case.now) }
     {
+        self.put_choice(&case.pattern, &case.body, out)
+    }
+
+    fn put_choice(
+        &self,
+        p: &Node<Pattern>,
+        a: &Node<Expression>,
+        out: &mut Kinds,
+    ) -> Result<(), Memory>
+        requires { Writes self.now.depth (F.pre self.now.parts) (F.post self.now.parts) }
+        ensures { OnOk result (out.new ≡ out.old ++ (TokenKind.Reserved Word.Case ∷ pattern_tokens p.now ++ expression_tokens a.now)) }
+    {
         put_word(out, Word::Case)?;
-        put_pattern(self.alloc, case.pattern.get(), out)?;
-        self.put(case.body.get(), out)
+        put_pattern(self.alloc, p.get(), out)?;
+        self.put(a, out)
     }
 
     #[tactic(auto, unfolding(mo_syntax::specs::ExpressionGrammar::declaration_tokens, mo_syntax::specs::ExpressionGrammar::expression_tokens, mo_syntax::specs::ExpressionGrammar::declaration_field_tokens, mo_syntax::specs::ExpressionGrammar::case_tokens, mo_syntax::specs::ExpressionGrammar::expression_field_tokens))]
@@ -179,10 +186,30 @@ impl<F: Fn(Global, usize, Part<'_>, &mut Kinds) -> Result<(), Memory>> Writer<F>
         requires { Writes self.now.depth (F.pre self.now.parts) (F.post self.now.parts) }
         ensures { OnOk result (out.new ≡ out.old ++ expression_field_tokens field.now) }
     {
-        put_word_if(out, field.mutable, Word::Var)?;
-        put_name(self.alloc, out, &field.name)?;
-        put_annotation(self.alloc, &field.annotation, out)?;
-        self.put_value(&field.value, out)
+        self.put_entry(
+            field.mutable,
+            &field.name,
+            &field.annotation,
+            &field.value,
+            out,
+        )
+    }
+
+    fn put_entry(
+        &self,
+        mutable: bool,
+        name: &Name,
+        annotation: &Option<Node<TypeExpression>>,
+        value: &Option<Node<Expression>>,
+        out: &mut Kinds,
+    ) -> Result<(), Memory>
+        requires { Writes self.now.depth (F.pre self.now.parts) (F.post self.now.parts) }
+        ensures { OnOk result (out.new ≡ out.old ++ (marked mutable (TokenKind.Reserved Word.Var) ++ (TokenKind.Identifier name.now ∷ writing.annotation (option_map type_tokens annotation.now) ++ led (TokenKind.Mark Mark.EqualSign) (option_map expression_tokens value.now)))) }
+    {
+        put_word_if(out, mutable, Word::Var)?;
+        put_name(self.alloc, out, name)?;
+        put_annotation(self.alloc, annotation, out)?;
+        self.put_value(value, out)
     }
 
     #[tactic(auto, unfolding(mo_syntax::specs::ExpressionGrammar::declaration_tokens, mo_syntax::specs::ExpressionGrammar::expression_tokens, mo_syntax::specs::ExpressionGrammar::declaration_field_tokens, mo_syntax::specs::ExpressionGrammar::case_tokens, mo_syntax::specs::ExpressionGrammar::expression_field_tokens))]
@@ -194,7 +221,19 @@ impl<F: Fn(Global, usize, Part<'_>, &mut Kinds) -> Result<(), Memory>> Writer<F>
         requires { Writes self.now.depth (F.pre self.now.parts) (F.post self.now.parts) }
         ensures { OnOk result (out.new ≡ out.old ++ declaration_field_tokens field.now) }
     {
-        put_visibility(field.visibility, out)?;
-        self.put_declared(field.declaration.get(), out)
+        self.put_visible(field.visibility, &field.declaration, out)
+    }
+
+    fn put_visible(
+        &self,
+        visibility: Option<Visibility>,
+        declaration: &Node<Declaration>,
+        out: &mut Kinds,
+    ) -> Result<(), Memory>
+        requires { Writes self.now.depth (F.pre self.now.parts) (F.post self.now.parts) }
+        ensures { OnOk result (out.new ≡ out.old ++ (visibility_tokens visibility ++ declaration_tokens declaration.now)) }
+    {
+        put_visibility(visibility, out)?;
+        self.put_declared(declaration, out)
     }
 }

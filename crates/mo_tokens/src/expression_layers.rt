@@ -23,20 +23,20 @@ use mo_syntax::{
 use std::alloc::Global;
 
 // `actor "id"`
-fn put_actor_reference(alloc: Global, text: &[u8], out: &mut Kinds) -> Result<(), Memory>
+fn put_actor_reference(alloc: Global, text: &Bytes, out: &mut Kinds) -> Result<(), Memory>
     ensures { OnOk result (out.new ≡ out.old ++ TokenKind.Reserved Word.Actor ∷ TokenKind.Text text.now ∷ []) }
 {
     put_word(out, Word::Actor)?;
-    put_text(alloc, out, text)
+    put_text(alloc, out, text.as_slice())
 }
 
 // `actor ("id")`
-fn put_actor_in_parens(alloc: Global, text: &[u8], out: &mut Kinds) -> Result<(), Memory>
+fn put_actor_in_parens(alloc: Global, text: &Bytes, out: &mut Kinds) -> Result<(), Memory>
     ensures { OnOk result (out.new ≡ out.old ++ TokenKind.Reserved Word.Actor ∷ parens (TokenKind.Text text.now ∷ [])) }
 {
     put_word(out, Word::Actor)?;
     put_mark(out, Mark::ParenOpen)?;
-    put_text(alloc, out, text)?;
+    put_text(alloc, out, text.as_slice())?;
     put_mark(out, Mark::ParenClose)
 }
 
@@ -47,89 +47,58 @@ impl<F: Fn(Global, usize, Part<'_>, &mut Kinds) -> Result<(), Memory>> Writer<F>
         ensures { OnOk result (out.new ≡ out.old ++ expression_tokens a.now) }
     {
         match a {
-            Expression::Assign(operator, a, b) => self.put_assign(*operator, a.get(), b.get(), out),
-            Expression::Annotated(a, kind) => self.put_annotated(a.get(), kind.get(), out),
-            Expression::Binary(operator, a, b) => self.put_binary(*operator, a.get(), b.get(), out),
-            Expression::If(condition, a, otherwise) => self.put_if(
-                condition.get(),
-                a.get(),
-                otherwise,
-                out,
-            ),
-            Expression::Switch(a, cases, last) => self.put_switch(
-                a.get(),
-                cases.as_slice(),
-                *last,
-                out,
-            ),
-            Expression::While(condition, a) => self.put_while(condition.get(), a.get(), out),
-            Expression::Loop(a, condition) => self.put_loop(a.get(), condition, out),
-            Expression::For(p, a, b) => self.put_for(p.get(), a.get(), b.get(), out),
-            Expression::Label(name, kind, a) => self.put_label(name, kind, a.get(), out),
+            Expression::Assign(operator, a, b) => self.put_assign(*operator, a, b, out),
+            Expression::Annotated(a, kind) => self.put_annotated(a, kind, out),
+            Expression::Binary(operator, a, b) => self.put_binary(*operator, a, b, out),
+            Expression::If(condition, a, otherwise) => self.put_if(condition, a, otherwise, out),
+            Expression::Switch(a, cases, last) => self.put_switch(a, cases, *last, out),
+            Expression::While(condition, a) => self.put_while(condition, a, out),
+            Expression::Loop(a, condition) => self.put_loop(a, condition, out),
+            Expression::For(p, a, b) => self.put_for(p, a, b, out),
+            Expression::Label(name, kind, a) => self.put_label(name, kind, a, out),
             Expression::Break(name, a) => self.put_break(name, a, out),
             Expression::Continue(name) => self.put_word_name(Word::Continue, name, out),
             Expression::Return(a) => self.put_return(a, out),
-            Expression::Do(a) => self.put_word_and(Word::Do, a.get(), out),
-            Expression::DoOptional(a) => self.put_do_optional(a.get(), out),
-            Expression::Await(a) => self.put_word_and(Word::Await, a.get(), out),
-            Expression::Throw(a) => self.put_word_and(Word::Throw, a.get(), out),
-            Expression::Try(a, p, b) => self.put_try(a.get(), p.get(), b.get(), out),
-            Expression::Assert(a) => self.put_word_and(Word::Assert, a.get(), out),
-            Expression::Ignore(a) => self.put_word_and(Word::Ignore, a.get(), out),
-            Expression::Debug(a) => self.put_word_and(Word::Debug, a.get(), out),
+            Expression::Do(a) => self.put_word_and(Word::Do, a, out),
+            Expression::DoOptional(a) => self.put_do_optional(a, out),
+            Expression::Await(a) => self.put_word_and(Word::Await, a, out),
+            Expression::Throw(a) => self.put_word_and(Word::Throw, a, out),
+            Expression::Try(a, p, b) => self.put_try(a, p, b, out),
+            Expression::Assert(a) => self.put_word_and(Word::Assert, a, out),
+            Expression::Ignore(a) => self.put_word_and(Word::Ignore, a, out),
+            Expression::Debug(a) => self.put_word_and(Word::Debug, a, out),
             Expression::Function(parameters, annotation, equal_sign, body) => self.put_function(
                 parameters,
                 annotation,
                 *equal_sign,
-                body.get(),
+                body,
                 out,
             ),
-            Expression::ObjectBlock(fields, last) => self.put_object_block(
-                fields.as_slice(),
-                *last,
-                out,
-            ),
-            Expression::Optional(a) => self.put_mark_and(Mark::Question, a.get(), out),
-            Expression::Negative(a) => self.put_mark_and(Mark::Minus, a.get(), out),
-            Expression::Not(a) => self.put_word_and(Word::Not, a.get(), out),
+            Expression::ObjectBlock(fields, last) => self.put_object_block(fields, *last, out),
+            Expression::Optional(a) => self.put_mark_and(Mark::Question, a, out),
+            Expression::Negative(a) => self.put_mark_and(Mark::Minus, a, out),
+            Expression::Not(a) => self.put_word_and(Word::Not, a, out),
             Expression::Tagged(name, payload) => self.put_tagged(name, payload, out),
-            Expression::Member(a, name) => self.put_member(a.get(), name, out),
-            Expression::Projection(a, n) => self.put_projection(a.get(), *n, out),
-            Expression::Index(a, b) => self.put_index(a.get(), b.get(), out),
-            Expression::Call(a, types, arguments) => self.put_call(
-                a.get(),
-                types,
-                arguments.as_slice(),
-                out,
-            ),
-            Expression::Bang(a) => self.put_bang(a.get(), out),
+            Expression::Member(a, name) => self.put_member(a, name, out),
+            Expression::Projection(a, n) => self.put_projection(a, *n, out),
+            Expression::Index(a, b) => self.put_index(a, b, out),
+            Expression::Call(a, types, arguments) => self.put_call(a, types, arguments, out),
+            Expression::Bang(a) => self.put_bang(a, out),
             Expression::Constant(literal) => put_literal(self.alloc, literal, out),
             Expression::Variable(name) => put_name(self.alloc, out, name),
-            Expression::Parenthesized(items) => self.put_arguments(items.as_slice(), out),
-            Expression::Array(mutable, items) => self.put_array(*mutable, items.as_slice(), out),
-            Expression::Object(fields, last) => self.put_object(fields.as_slice(), *last, out),
-            Expression::ActorReference(false, text) => put_actor_reference(
-                self.alloc,
-                text.as_slice(),
-                out,
-            ),
-            Expression::ActorReference(true, text) => put_actor_in_parens(
-                self.alloc,
-                text.as_slice(),
-                out,
-            ),
-            Expression::Block(declarations, last) => self.put_block(
-                declarations.as_slice(),
-                *last,
-                out,
-            ),
+            Expression::Parenthesized(items) => self.put_arguments(items, out),
+            Expression::Array(mutable, items) => self.put_array(*mutable, items, out),
+            Expression::Object(fields, last) => self.put_object(fields, *last, out),
+            Expression::ActorReference(false, text) => put_actor_reference(self.alloc, text, out),
+            Expression::ActorReference(true, text) => put_actor_in_parens(self.alloc, text, out),
+            Expression::Block(declarations, last) => self.put_block(declarations, *last, out),
         }
     }
 
     pub(crate) fn put_mark_and(
         &self,
         mark: Mark,
-        a: &Expression,
+        a: &Node<Expression>,
         out: &mut Kinds,
     ) -> Result<(), Memory>
         requires { Writes self.now.depth (F.pre self.now.parts) (F.post self.now.parts) }
@@ -142,8 +111,8 @@ impl<F: Fn(Global, usize, Part<'_>, &mut Kinds) -> Result<(), Memory>> Writer<F>
     fn put_assign(
         &self,
         operator: AssignmentOperator,
-        a: &Expression,
-        b: &Expression,
+        a: &Node<Expression>,
+        b: &Node<Expression>,
         out: &mut Kinds,
     ) -> Result<(), Memory>
         requires { Writes self.now.depth (F.pre self.now.parts) (F.post self.now.parts) }
@@ -156,8 +125,8 @@ impl<F: Fn(Global, usize, Part<'_>, &mut Kinds) -> Result<(), Memory>> Writer<F>
 
     fn put_annotated(
         &self,
-        a: &Expression,
-        kind: &TypeExpression,
+        a: &Node<Expression>,
+        kind: &Node<TypeExpression>,
         out: &mut Kinds,
     ) -> Result<(), Memory>
         requires { Writes self.now.depth (F.pre self.now.parts) (F.post self.now.parts) }
@@ -165,14 +134,14 @@ impl<F: Fn(Global, usize, Part<'_>, &mut Kinds) -> Result<(), Memory>> Writer<F>
     {
         self.put(a, out)?;
         put_mark(out, Mark::Colon)?;
-        put_type(self.alloc, kind, out)
+        put_type(self.alloc, kind.get(), out)
     }
 
     fn put_binary(
         &self,
         operator: BinaryOperator,
-        a: &Expression,
-        b: &Expression,
+        a: &Node<Expression>,
+        b: &Node<Expression>,
         out: &mut Kinds,
     ) -> Result<(), Memory>
         requires { Writes self.now.depth (F.pre self.now.parts) (F.post self.now.parts) }
@@ -196,7 +165,7 @@ impl<F: Fn(Global, usize, Part<'_>, &mut Kinds) -> Result<(), Memory>> Writer<F>
         self.put_optional(payload, out)
     }
 
-    fn put_member(&self, a: &Expression, name: &Name, out: &mut Kinds) -> Result<(), Memory>
+    fn put_member(&self, a: &Node<Expression>, name: &Name, out: &mut Kinds) -> Result<(), Memory>
         requires { Writes self.now.depth (F.pre self.now.parts) (F.post self.now.parts) }
         ensures { OnOk result (out.new ≡ out.old ++ (expression_tokens a.now ++ TokenKind.Mark Mark.Dot ∷ TokenKind.Identifier name.now ∷ [])) }
     {
@@ -205,7 +174,7 @@ impl<F: Fn(Global, usize, Part<'_>, &mut Kinds) -> Result<(), Memory>> Writer<F>
         put_name(self.alloc, out, name)
     }
 
-    fn put_projection(&self, a: &Expression, n: u64, out: &mut Kinds) -> Result<(), Memory>
+    fn put_projection(&self, a: &Node<Expression>, n: u64, out: &mut Kinds) -> Result<(), Memory>
         requires { Writes self.now.depth (F.pre self.now.parts) (F.post self.now.parts) }
         ensures { OnOk result (out.new ≡ out.old ++ (expression_tokens a.now ++ TokenKind.Mark Mark.Dot ∷ TokenKind.Number n ∷ [])) }
     {
@@ -214,7 +183,12 @@ impl<F: Fn(Global, usize, Part<'_>, &mut Kinds) -> Result<(), Memory>> Writer<F>
         out.push(TokenKind::Number(n))
     }
 
-    fn put_index(&self, a: &Expression, b: &Expression, out: &mut Kinds) -> Result<(), Memory>
+    fn put_index(
+        &self,
+        a: &Node<Expression>,
+        b: &Node<Expression>,
+        out: &mut Kinds,
+    ) -> Result<(), Memory>
         requires { Writes self.now.depth (F.pre self.now.parts) (F.post self.now.parts) }
         ensures { OnOk result (out.new ≡ out.old ++ (expression_tokens a.now ++ brackets (expression_tokens b.now))) }
     {
@@ -225,9 +199,9 @@ impl<F: Fn(Global, usize, Part<'_>, &mut Kinds) -> Result<(), Memory>> Writer<F>
 
     fn put_call(
         &self,
-        a: &Expression,
+        a: &Node<Expression>,
         types: &Option<Items<Node<TypeExpression>>>,
-        arguments: &[Node<Expression>],
+        arguments: &Items<Node<Expression>>,
         out: &mut Kinds,
     ) -> Result<(), Memory>
         requires { Writes self.now.depth (F.pre self.now.parts) (F.post self.now.parts) }
@@ -238,7 +212,7 @@ impl<F: Fn(Global, usize, Part<'_>, &mut Kinds) -> Result<(), Memory>> Writer<F>
         self.put_arguments(arguments, out)
     }
 
-    fn put_bang(&self, a: &Expression, out: &mut Kinds) -> Result<(), Memory>
+    fn put_bang(&self, a: &Node<Expression>, out: &mut Kinds) -> Result<(), Memory>
         requires { Writes self.now.depth (F.pre self.now.parts) (F.post self.now.parts) }
         ensures { OnOk result (out.new ≡ out.old ++ (expression_tokens a.now ++ TokenKind.Mark Mark.Bang ∷ [])) }
     {
@@ -247,33 +221,33 @@ impl<F: Fn(Global, usize, Part<'_>, &mut Kinds) -> Result<(), Memory>> Writer<F>
     }
 
     // Expressions in parentheses.
-    fn put_arguments(&self, items: &[Node<Expression>], out: &mut Kinds) -> Result<(), Memory>
+    fn put_arguments(&self, items: &Items<Node<Expression>>, out: &mut Kinds) -> Result<(), Memory>
         requires { Writes self.now.depth (F.pre self.now.parts) (F.post self.now.parts) }
         ensures { OnOk result (out.new ≡ out.old ++ parens (commas (map expression_tokens items.now))) }
     {
         put_mark(out, Mark::ParenOpen)?;
-        self.put_expressions(items, out)?;
+        self.put_expressions(items.as_slice(), out)?;
         put_mark(out, Mark::ParenClose)
     }
 
     fn put_array(
         &self,
         mutable: bool,
-        items: &[Node<Expression>],
+        items: &Items<Node<Expression>>,
         out: &mut Kinds,
     ) -> Result<(), Memory>
         requires { Writes self.now.depth (F.pre self.now.parts) (F.post self.now.parts) }
-        ensures { OnOk result (out.new ≡ out.old ++ brackets (marked mutable (TokenKind.Reserved Word.Var) ++ commas (map expression_tokens items.now))) }
+        ensures { OnOk result (out.new ≡ out.old ++ (brackets (marked mutable (TokenKind.Reserved Word.Var) ++ commas (map expression_tokens items.now)))) }
     {
         put_mark(out, Mark::BracketOpen)?;
         put_word_if(out, mutable, Word::Var)?;
-        self.put_expressions(items, out)?;
+        self.put_expressions(items.as_slice(), out)?;
         put_mark(out, Mark::BracketClose)
     }
 
     fn put_object(
         &self,
-        fields: &[Node<ExpressionField>],
+        fields: &Items<Node<ExpressionField>>,
         last: bool,
         out: &mut Kinds,
     ) -> Result<(), Memory>
@@ -281,13 +255,13 @@ impl<F: Fn(Global, usize, Part<'_>, &mut Kinds) -> Result<(), Memory>> Writer<F>
         ensures { OnOk result (out.new ≡ out.old ++ braces (semicolons (map expression_field_tokens fields.now) last)) }
     {
         put_mark(out, Mark::BraceOpen)?;
-        self.put_expression_fields(fields, out)?;
+        self.put_expression_fields(fields.as_slice(), out)?;
         put_end(last, out)
     }
 
     fn put_block(
         &self,
-        declarations: &[Node<Declaration>],
+        declarations: &Items<Node<Declaration>>,
         last: bool,
         out: &mut Kinds,
     ) -> Result<(), Memory>
@@ -295,7 +269,7 @@ impl<F: Fn(Global, usize, Part<'_>, &mut Kinds) -> Result<(), Memory>> Writer<F>
         ensures { OnOk result (out.new ≡ out.old ++ braces (semicolons (map declaration_tokens declarations.now) last)) }
     {
         put_mark(out, Mark::BraceOpen)?;
-        self.put_declarations(declarations, out)?;
+        self.put_declarations(declarations.as_slice(), out)?;
         put_end(last, out)
     }
 }

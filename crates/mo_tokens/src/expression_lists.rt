@@ -27,10 +27,10 @@ impl<F: Fn(Global, usize, Part<'_>, &mut Kinds) -> Result<(), Memory>> Writer<F>
         let [first, others @ ..] = items else {
             return Ok(());
         };
-        self.put(first.get(), out)?;
+        self.put(first, out)?;
         for one in others {
             put_mark(out, Mark::Comma)?;
-            self.put(one.get(), out)?;
+            self.put(one, out)?;
         }
         Ok(())
     }
@@ -80,10 +80,10 @@ impl<F: Fn(Global, usize, Part<'_>, &mut Kinds) -> Result<(), Memory>> Writer<F>
         let [first, others @ ..] = items else {
             return Ok(());
         };
-        self.put_declared(first.get(), out)?;
+        self.put_declared(first, out)?;
         for one in others {
             put_mark(out, Mark::Semicolon)?;
-            self.put_declared(one.get(), out)?;
+            self.put_declared(one, out)?;
         }
         Ok(())
     }

@@ -45,11 +45,11 @@ pub(crate) struct TypeWriter<F> {
 }
 
 impl<F: Fn(Global, usize, &TypeExpression, &mut Kinds) -> Result<(), Memory>> TypeWriter<F> {
-    fn put(&self, a: &TypeExpression, out: &mut Kinds) -> Result<(), Memory>
+    fn put(&self, a: &Node<TypeExpression>, out: &mut Kinds) -> Result<(), Memory>
         requires { Writes self.now.depth (F.pre self.now.types) (F.post self.now.types) }
         ensures { OnOk result (out.new ≡ out.old ++ type_tokens a.now) }
     {
-        (self.types)(self.alloc, self.depth, a, out)
+        (self.types)(self.alloc, self.depth, a.get(), out)
     }
 
     #[tactic(auto, unfolding(mo_syntax::specs::TypeGrammar::type_tokens, mo_syntax::specs::TypeGrammar::type_field_tokens, mo_syntax::specs::TypeGrammar::type_item_tokens, mo_syntax::specs::TypeGrammar::type_method_tokens, mo_syntax::specs::TypeGrammar::type_tag_tokens))]
@@ -58,34 +58,26 @@ impl<F: Fn(Global, usize, &TypeExpression, &mut Kinds) -> Result<(), Memory>> Ty
         ensures { OnOk result (out.new ≡ out.old ++ type_tokens a.now) }
     {
         match a {
-            TypeExpression::Function(sharing, a, b) => self.put_function(
-                *sharing,
-                a.get(),
-                b.get(),
-                out,
-            ),
-            TypeExpression::Optional(a) => self.put_optional(a.get(), out),
-            TypeExpression::Async(a) => self.put_async(a.get(), out),
+            TypeExpression::Function(sharing, a, b) => self.put_function(*sharing, a, b, out),
+            TypeExpression::Optional(a) => self.put_optional(a, out),
+            TypeExpression::Async(a) => self.put_async(a, out),
             TypeExpression::Named(name, arguments) => self.put_named(name, arguments, out),
-            TypeExpression::Parenthesized(items) => self.put_parenthesized(items.as_slice(), out),
-            TypeExpression::Array(mutable, a) => self.put_array(*mutable, a.get(), out),
+            TypeExpression::Parenthesized(items) => self.put_parenthesized(items, out),
+            TypeExpression::Array(mutable, a) => self.put_array(*mutable, a, out),
             TypeExpression::Object(word, fields, last) => self.put_object(
-                *word,
-                fields.as_slice(),
-                *last,
-                out,
+                *word, fields, *last, out,
             ),
             TypeExpression::EmptyVariant => put_empty_variant(out),
-            TypeExpression::Variant(tags, last) => self.put_variant(tags.as_slice(), *last, out),
-            TypeExpression::Actor(methods, last) => self.put_actor(methods.as_slice(), *last, out),
+            TypeExpression::Variant(tags, last) => self.put_variant(tags, *last, out),
+            TypeExpression::Actor(methods, last) => self.put_actor(methods, *last, out),
         }
     }
 
     fn put_function(
         &self,
         sharing: Sharing,
-        a: &TypeExpression,
-        b: &TypeExpression,
+        a: &Node<TypeExpression>,
+        b: &Node<TypeExpression>,
         out: &mut Kinds,
     ) -> Result<(), Memory>
         requires { Writes self.now.depth (F.pre self.now.types) (F.post self.now.types) }
@@ -97,7 +89,7 @@ impl<F: Fn(Global, usize, &TypeExpression, &mut Kinds) -> Result<(), Memory>> Ty
         self.put(b, out)
     }
 
-    fn put_optional(&self, a: &TypeExpression, out: &mut Kinds) -> Result<(), Memory>
+    fn put_optional(&self, a: &Node<TypeExpression>, out: &mut Kinds) -> Result<(), Memory>
         requires { Writes self.now.depth (F.pre self.now.types) (F.post self.now.types) }
         ensures { OnOk result (out.new ≡ out.old ++ TokenKind.Mark Mark.Question ∷ type_tokens a.now) }
     {
@@ -105,7 +97,7 @@ impl<F: Fn(Global, usize, &TypeExpression, &mut Kinds) -> Result<(), Memory>> Ty
         self.put(a, out)
     }
 
-    fn put_async(&self, a: &TypeExpression, out: &mut Kinds) -> Result<(), Memory>
+    fn put_async(&self, a: &Node<TypeExpression>, out: &mut Kinds) -> Result<(), Memory>
         requires { Writes self.now.depth (F.pre self.now.types) (F.post self.now.types) }
         ensures { OnOk result (out.new ≡ out.old ++ TokenKind.Reserved Word.Async ∷ type_tokens a.now) }
     {
@@ -144,16 +136,25 @@ impl<F: Fn(Global, usize, &TypeExpression, &mut Kinds) -> Result<(), Memory>> Ty
         }
     }
 
-    fn put_parenthesized(&self, items: &[Node<TypeItem>], out: &mut Kinds) -> Result<(), Memory>
+    fn put_parenthesized(
+        &self,
+        items: &Items<Node<TypeItem>>,
+        out: &mut Kinds,
+    ) -> Result<(), Memory>
         requires { Writes self.now.depth (F.pre self.now.types) (F.post self.now.types) }
         ensures { OnOk result (out.new ≡ out.old ++ parens (commas (map type_item_tokens items.now))) }
     {
         put_mark(out, Mark::ParenOpen)?;
-        self.put_items(items, out)?;
+        self.put_items(items.as_slice(), out)?;
         put_mark(out, Mark::ParenClose)
     }
 
-    fn put_array(&self, mutable: bool, a: &TypeExpression, out: &mut Kinds) -> Result<(), Memory>
+    fn put_array(
+        &self,
+        mutable: bool,
+        a: &Node<TypeExpression>,
+        out: &mut Kinds,
+    ) -> Result<(), Memory>
         requires { Writes self.now.depth (F.pre self.now.types) (F.post self.now.types) }
         ensures { OnOk result (out.new ≡ out.old ++ brackets (marked mutable (TokenKind.Reserved Word.Var) ++ type_tokens a.now)) }
     {
@@ -166,7 +167,7 @@ impl<F: Fn(Global, usize, &TypeExpression, &mut Kinds) -> Result<(), Memory>> Ty
     fn put_object(
         &self,
         word: bool,
-        fields: &[Node<TypeField>],
+        fields: &Items<Node<TypeField>>,
         last: bool,
         out: &mut Kinds,
     ) -> Result<(), Memory>
@@ -175,22 +176,27 @@ impl<F: Fn(Global, usize, &TypeExpression, &mut Kinds) -> Result<(), Memory>> Ty
     {
         put_word_if(out, word, Word::Object)?;
         put_mark(out, Mark::BraceOpen)?;
-        self.put_fields(fields, out)?;
+        self.put_fields(fields.as_slice(), out)?;
         put_end(last, out)
     }
 
-    fn put_variant(&self, tags: &[Node<TypeTag>], last: bool, out: &mut Kinds) -> Result<(), Memory>
+    fn put_variant(
+        &self,
+        tags: &Items<Node<TypeTag>>,
+        last: bool,
+        out: &mut Kinds,
+    ) -> Result<(), Memory>
         requires { Writes self.now.depth (F.pre self.now.types) (F.post self.now.types) }
         ensures { OnOk result (out.new ≡ out.old ++ braces (semicolons (map type_tag_tokens tags.now) last)) }
     {
         put_mark(out, Mark::BraceOpen)?;
-        self.put_tags(tags, out)?;
+        self.put_tags(tags.as_slice(), out)?;
         put_end(last, out)
     }
 
     fn put_actor(
         &self,
-        methods: &[Node<TypeMethod>],
+        methods: &Items<Node<TypeMethod>>,
         last: bool,
         out: &mut Kinds,
     ) -> Result<(), Memory>
@@ -199,7 +205,7 @@ impl<F: Fn(Global, usize, &TypeExpression, &mut Kinds) -> Result<(), Memory>> Ty
     {
         put_word(out, Word::Actor)?;
         put_mark(out, Mark::BraceOpen)?;
-        self.put_methods(methods, out)?;
+        self.put_methods(methods.as_slice(), out)?;
         put_end(last, out)
     }
 
@@ -210,10 +216,10 @@ impl<F: Fn(Global, usize, &TypeExpression, &mut Kinds) -> Result<(), Memory>> Ty
         let [first, others @ ..] = types else {
             return Ok(());
         };
-        self.put(first.get(), out)?;
+        self.put(first, out)?;
         for one in others {
             put_mark(out, Mark::Comma)?;
-            self.put(one.get(), out)?;
+            self.put(one, out)?;
         }
         Ok(())
     }
@@ -251,7 +257,7 @@ impl<F: Fn(Global, usize, &TypeExpression, &mut Kinds) -> Result<(), Memory>> Ty
         ensures { OnOk result (out.new ≡ out.old ++ (item_name name.now ++ type_tokens a.now)) }
     {
         match name {
-            None => self.put(a.get(), out),
+            None => self.put(a, out),
             Some(name) => self.put_annotated(name, a, out),
         }
     }
@@ -267,7 +273,7 @@ impl<F: Fn(Global, usize, &TypeExpression, &mut Kinds) -> Result<(), Memory>> Ty
     {
         put_name(self.alloc, out, name)?;
         put_mark(out, Mark::Colon)?;
-        self.put(a.get(), out)
+        self.put(a, out)
     }
 
     fn put_fields(&self, fields: &[Node<TypeField>], out: &mut Kinds) -> Result<(), Memory>

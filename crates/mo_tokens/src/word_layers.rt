@@ -16,7 +16,7 @@ use crate::type_writing::put_annotation;
 use crate::writer::Writer;
 use mo_num::Memory;
 use mo_syntax::{
-    Case, DeclarationField, Expression, Kinds, Mark, Name, Node, Parameters, Pattern,
+    Case, DeclarationField, Expression, Items, Kinds, Mark, Name, Node, Parameters, Pattern,
     TypeExpression, Word,
 };
 use std::alloc::Global;
@@ -25,7 +25,7 @@ impl<F: Fn(Global, usize, Part<'_>, &mut Kinds) -> Result<(), Memory>> Writer<F>
     pub(crate) fn put_word_and(
         &self,
         word: Word,
-        a: &Expression,
+        a: &Node<Expression>,
         out: &mut Kinds,
     ) -> Result<(), Memory>
         requires { Writes self.now.depth (F.pre self.now.parts) (F.post self.now.parts) }
@@ -37,13 +37,13 @@ impl<F: Fn(Global, usize, Part<'_>, &mut Kinds) -> Result<(), Memory>> Writer<F>
 
     pub(crate) fn put_if(
         &self,
-        condition: &Expression,
-        a: &Expression,
+        condition: &Node<Expression>,
+        a: &Node<Expression>,
         otherwise: &Option<Node<Expression>>,
         out: &mut Kinds,
     ) -> Result<(), Memory>
         requires { Writes self.now.depth (F.pre self.now.parts) (F.post self.now.parts) }
-        ensures { OnOk result (out.new ≡ out.old ++ TokenKind.Reserved Word.If ∷ expression_tokens condition.now ++ (expression_tokens a.now ++ led (TokenKind.Reserved Word.Else) (option_map expression_tokens otherwise.now))) }
+        ensures { OnOk result (out.new ≡ out.old ++ (TokenKind.Reserved Word.If ∷ expression_tokens condition.now ++ (expression_tokens a.now ++ led (TokenKind.Reserved Word.Else) (option_map expression_tokens otherwise.now)))) }
     {
         self.put_word_and(Word::If, condition, out)?;
         self.put(a, out)?;
@@ -52,28 +52,28 @@ impl<F: Fn(Global, usize, Part<'_>, &mut Kinds) -> Result<(), Memory>> Writer<F>
 
     pub(crate) fn put_switch(
         &self,
-        a: &Expression,
-        cases: &[Node<Case>],
+        a: &Node<Expression>,
+        cases: &Items<Node<Case>>,
         last: bool,
         out: &mut Kinds,
     ) -> Result<(), Memory>
         requires { Writes self.now.depth (F.pre self.now.parts) (F.post self.now.parts) }
-        ensures { OnOk result (out.new ≡ out.old ++ TokenKind.Reserved Word.Switch ∷ expression_tokens a.now ++ braces (semicolons (map case_tokens cases.now) last)) }
+        ensures { OnOk result (out.new ≡ out.old ++ (TokenKind.Reserved Word.Switch ∷ expression_tokens a.now ++ braces (semicolons (map case_tokens cases.now) last))) }
     {
         self.put_word_and(Word::Switch, a, out)?;
         put_mark(out, Mark::BraceOpen)?;
-        self.put_cases(cases, out)?;
+        self.put_cases(cases.as_slice(), out)?;
         put_end(last, out)
     }
 
     pub(crate) fn put_while(
         &self,
-        condition: &Expression,
-        a: &Expression,
+        condition: &Node<Expression>,
+        a: &Node<Expression>,
         out: &mut Kinds,
     ) -> Result<(), Memory>
         requires { Writes self.now.depth (F.pre self.now.parts) (F.post self.now.parts) }
-        ensures { OnOk result (out.new ≡ out.old ++ TokenKind.Reserved Word.While ∷ expression_tokens condition.now ++ expression_tokens a.now) }
+        ensures { OnOk result (out.new ≡ out.old ++ (TokenKind.Reserved Word.While ∷ expression_tokens condition.now ++ expression_tokens a.now)) }
     {
         self.put_word_and(Word::While, condition, out)?;
         self.put(a, out)
@@ -81,37 +81,42 @@ impl<F: Fn(Global, usize, Part<'_>, &mut Kinds) -> Result<(), Memory>> Writer<F>
 
     pub(crate) fn put_loop(
         &self,
-        a: &Expression,
+        a: &Node<Expression>,
         condition: &Option<Node<Expression>>,
         out: &mut Kinds,
     ) -> Result<(), Memory>
         requires { Writes self.now.depth (F.pre self.now.parts) (F.post self.now.parts) }
-        ensures { OnOk result (out.new ≡ out.old ++ TokenKind.Reserved Word.Loop ∷ expression_tokens a.now ++ led (TokenKind.Reserved Word.While) (option_map expression_tokens condition.now)) }
+        ensures { OnOk result (out.new ≡ out.old ++ (TokenKind.Reserved Word.Loop ∷ expression_tokens a.now ++ led (TokenKind.Reserved Word.While) (option_map expression_tokens condition.now))) }
     {
         self.put_word_and(Word::Loop, a, out)?;
         self.put_led(Word::While, condition, out)
     }
 
     // What a `for` goes over.
-    fn put_binding(&self, p: &Pattern, a: &Expression, out: &mut Kinds) -> Result<(), Memory>
+    fn put_binding(
+        &self,
+        p: &Node<Pattern>,
+        a: &Node<Expression>,
+        out: &mut Kinds,
+    ) -> Result<(), Memory>
         requires { Writes self.now.depth (F.pre self.now.parts) (F.post self.now.parts) }
-        ensures { OnOk result (out.new ≡ out.old ++ parens (pattern_tokens p.now ++ TokenKind.Reserved Word.In ∷ expression_tokens a.now)) }
+        ensures { OnOk result (out.new ≡ out.old ++ (parens (pattern_tokens p.now ++ TokenKind.Reserved Word.In ∷ expression_tokens a.now))) }
     {
         put_mark(out, Mark::ParenOpen)?;
-        put_pattern(self.alloc, p, out)?;
+        put_pattern(self.alloc, p.get(), out)?;
         self.put_word_and(Word::In, a, out)?;
         put_mark(out, Mark::ParenClose)
     }
 
     pub(crate) fn put_for(
         &self,
-        p: &Pattern,
-        a: &Expression,
-        b: &Expression,
+        p: &Node<Pattern>,
+        a: &Node<Expression>,
+        b: &Node<Expression>,
         out: &mut Kinds,
     ) -> Result<(), Memory>
         requires { Writes self.now.depth (F.pre self.now.parts) (F.post self.now.parts) }
-        ensures { OnOk result (out.new ≡ out.old ++ TokenKind.Reserved Word.For ∷ parens (pattern_tokens p.now ++ TokenKind.Reserved Word.In ∷ expression_tokens a.now) ++ expression_tokens b.now) }
+        ensures { OnOk result (out.new ≡ out.old ++ (TokenKind.Reserved Word.For ∷ parens (pattern_tokens p.now ++ TokenKind.Reserved Word.In ∷ expression_tokens a.now) ++ expression_tokens b.now)) }
     {
         put_word(out, Word::For)?;
         self.put_binding(p, a, out)?;
@@ -134,11 +139,11 @@ impl<F: Fn(Global, usize, Part<'_>, &mut Kinds) -> Result<(), Memory>> Writer<F>
         &self,
         name: &Name,
         kind: &Option<Node<TypeExpression>>,
-        a: &Expression,
+        a: &Node<Expression>,
         out: &mut Kinds,
     ) -> Result<(), Memory>
         requires { Writes self.now.depth (F.pre self.now.parts) (F.post self.now.parts) }
-        ensures { OnOk result (out.new ≡ out.old ++ TokenKind.Reserved Word.Label ∷ TokenKind.Identifier name.now ∷ annotation (option_map type_tokens kind.now) ++ expression_tokens a.now) }
+        ensures { OnOk result (out.new ≡ out.old ++ (TokenKind.Reserved Word.Label ∷ TokenKind.Identifier name.now ∷ annotation (option_map type_tokens kind.now) ++ expression_tokens a.now)) }
     {
         self.put_word_name(Word::Label, name, out)?;
         put_annotation(self.alloc, kind, out)?;
@@ -170,7 +175,11 @@ impl<F: Fn(Global, usize, Part<'_>, &mut Kinds) -> Result<(), Memory>> Writer<F>
         self.put_optional(a, out)
     }
 
-    pub(crate) fn put_do_optional(&self, a: &Expression, out: &mut Kinds) -> Result<(), Memory>
+    pub(crate) fn put_do_optional(
+        &self,
+        a: &Node<Expression>,
+        out: &mut Kinds,
+    ) -> Result<(), Memory>
         requires { Writes self.now.depth (F.pre self.now.parts) (F.post self.now.parts) }
         ensures { OnOk result (out.new ≡ out.old ++ TokenKind.Reserved Word.Do ∷ TokenKind.Mark Mark.Question ∷ expression_tokens a.now) }
     {
@@ -180,17 +189,17 @@ impl<F: Fn(Global, usize, Part<'_>, &mut Kinds) -> Result<(), Memory>> Writer<F>
 
     pub(crate) fn put_try(
         &self,
-        a: &Expression,
-        p: &Pattern,
-        b: &Expression,
+        a: &Node<Expression>,
+        p: &Node<Pattern>,
+        b: &Node<Expression>,
         out: &mut Kinds,
     ) -> Result<(), Memory>
         requires { Writes self.now.depth (F.pre self.now.parts) (F.post self.now.parts) }
-        ensures { OnOk result (out.new ≡ out.old ++ TokenKind.Reserved Word.Try ∷ expression_tokens a.now ++ (TokenKind.Reserved Word.Catch ∷ pattern_tokens p.now ++ expression_tokens b.now)) }
+        ensures { OnOk result (out.new ≡ out.old ++ (TokenKind.Reserved Word.Try ∷ expression_tokens a.now ++ (TokenKind.Reserved Word.Catch ∷ pattern_tokens p.now ++ expression_tokens b.now))) }
     {
         self.put_word_and(Word::Try, a, out)?;
         put_word(out, Word::Catch)?;
-        put_pattern(self.alloc, p, out)?;
+        put_pattern(self.alloc, p.get(), out)?;
         self.put(b, out)
     }
 
@@ -199,11 +208,11 @@ impl<F: Fn(Global, usize, Part<'_>, &mut Kinds) -> Result<(), Memory>> Writer<F>
         parameters: &Parameters,
         annotation: &Option<Node<TypeExpression>>,
         equal_sign: bool,
-        body: &Expression,
+        body: &Node<Expression>,
         out: &mut Kinds,
     ) -> Result<(), Memory>
         requires { Writes self.now.depth (F.pre self.now.parts) (F.post self.now.parts) }
-        ensures { OnOk result (out.new ≡ out.old ++ TokenKind.Reserved Word.Func ∷ signature (parameters_tokens parameters.now) (option_map type_tokens annotation.now) equal_sign ++ expression_tokens body.now) }
+        ensures { OnOk result (out.new ≡ out.old ++ (TokenKind.Reserved Word.Func ∷ signature (parameters_tokens parameters.now) (option_map type_tokens annotation.now) equal_sign ++ expression_tokens body.now)) }
     {
         put_word(out, Word::Func)?;
         put_signature(self.alloc, parameters, annotation, equal_sign, out)?;
@@ -212,7 +221,7 @@ impl<F: Fn(Global, usize, Part<'_>, &mut Kinds) -> Result<(), Memory>> Writer<F>
 
     pub(crate) fn put_members(
         &self,
-        fields: &[Node<DeclarationField>],
+        fields: &Items<Node<DeclarationField>>,
         last: bool,
         out: &mut Kinds,
     ) -> Result<(), Memory>
@@ -220,13 +229,13 @@ impl<F: Fn(Global, usize, Part<'_>, &mut Kinds) -> Result<(), Memory>> Writer<F>
         ensures { OnOk result (out.new ≡ out.old ++ braces (semicolons (map declaration_field_tokens fields.now) last)) }
     {
         put_mark(out, Mark::BraceOpen)?;
-        self.put_declaration_fields(fields, out)?;
+        self.put_declaration_fields(fields.as_slice(), out)?;
         put_end(last, out)
     }
 
     pub(crate) fn put_object_block(
         &self,
-        fields: &[Node<DeclarationField>],
+        fields: &Items<Node<DeclarationField>>,
         last: bool,
         out: &mut Kinds,
     ) -> Result<(), Memory>

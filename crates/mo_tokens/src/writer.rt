@@ -21,22 +21,27 @@ pub(crate) struct Writer<F> {
 }
 
 impl<F: Fn(Global, usize, Part<'_>, &mut Kinds) -> Result<(), Memory>> Writer<F> {
-    pub(crate) fn put(&self, a: &Expression, out: &mut Kinds) -> Result<(), Memory>
+    pub(crate) fn put(&self, a: &Node<Expression>, out: &mut Kinds) -> Result<(), Memory>
         requires { Writes self.now.depth (F.pre self.now.parts) (F.post self.now.parts) }
         ensures { OnOk result (out.new ≡ out.old ++ expression_tokens a.now) }
     {
-        (self.parts)(self.alloc, self.depth, Part::Expression(a), out)
+        (self.parts)(self.alloc, self.depth, Part::Expression(a.get()), out)
     }
 
     pub(crate) fn put_declared(
         &self,
-        declaration: &Declaration,
+        declaration: &Node<Declaration>,
         out: &mut Kinds,
     ) -> Result<(), Memory>
         requires { Writes self.now.depth (F.pre self.now.parts) (F.post self.now.parts) }
         ensures { OnOk result (out.new ≡ out.old ++ declaration_tokens declaration.now) }
     {
-        (self.parts)(self.alloc, self.depth, Part::Declaration(declaration), out)
+        (self.parts)(
+            self.alloc,
+            self.depth,
+            Part::Declaration(declaration.get()),
+            out,
+        )
     }
 
     pub(crate) fn put_optional(
@@ -49,7 +54,7 @@ impl<F: Fn(Global, usize, Part<'_>, &mut Kinds) -> Result<(), Memory>> Writer<F>
     {
         match a {
             None => Ok(()),
-            Some(a) => self.put(a.get(), out),
+            Some(a) => self.put(a, out),
         }
     }
 
@@ -66,7 +71,7 @@ impl<F: Fn(Global, usize, Part<'_>, &mut Kinds) -> Result<(), Memory>> Writer<F>
             None => Ok(()),
             Some(a) => {
                 put_word(out, word)?;
-                self.put(a.get(), out)
+                self.put(a, out)
             }
         }
     }
@@ -83,7 +88,7 @@ impl<F: Fn(Global, usize, Part<'_>, &mut Kinds) -> Result<(), Memory>> Writer<F>
             None => Ok(()),
             Some(a) => {
                 put_mark(out, Mark::EqualSign)?;
-                self.put(a.get(), out)
+                self.put(a, out)
             }
         }
     }
