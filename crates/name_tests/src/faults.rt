@@ -36,6 +36,11 @@ fn faults(rt: HostRuntime) -> Result<(), Fail> {
         ),
         (
             "import D \"mo:base/Debug\"; actor { let b = D.prin }",
+            Some(NameFault::Unknown(at(44, 48))),
+        ),
+        // No module has this name, so it is the name that is unknown, and not the member.
+        (
+            "import D \"mo:base/Debug\"; actor { let b = E.print }",
             Some(NameFault::Unknown(at(42, 43))),
         ),
         (
@@ -162,6 +167,10 @@ fn two_rules(rt: HostRuntime) -> Result<(), Fail> {
 fn two_rules_at_a_place(rt: HostRuntime) -> Result<(), Fail> {
     for (source, fault) in [
         ("actor { let a = __b }", NameFault::Unknown(at(16, 19))),
+        (
+            "import D \"mo:base/Debug\"; actor { let a = D.__b }",
+            NameFault::Unknown(at(44, 47)),
+        ),
         ("actor { let a : __T = 1 }", NameFault::Unknown(at(16, 19))),
         (
             "import __D \"mo:base/Deb\"; actor { }",

@@ -13,7 +13,7 @@ fn unknown(rt: HostRuntime) -> Result<(), Fail> {
         ),
         (
             "import D \"mo:base/Debug\"; actor { let a = D.trace }",
-            Some(NameFault::Unknown(at(42, 43))),
+            Some(NameFault::Unknown(at(44, 49))),
         ),
         (
             "actor { let x : Natural = 1 }",

@@ -1,6 +1,6 @@
 use Rattle.std.proofs.Common.{◌∙◌, ap, inr, subst, Option, List}
-use Rattle.mo_names.specs.declared.finding.Finding.{Finding}
-use Rattle.mo_names.specs.declared.rule.Breach.{Breach}
+use Rattle.mo_scopes.specs.declared.finding.Finding.{Finding}
+use Rattle.mo_scopes.specs.declared.rule.Breach.{Breach}
 use Rattle.mo_names.specs.ProgramNames.{meanings}
 use Rattle.mo_names.specs.Bound.{Breaks}
 use Rattle.mo_order.specs.Breaches.{FirstOf}
