@@ -1,3 +1,4 @@
 pub mod TypeNames
 pub mod PatternNames
 pub mod ExpressionNames
+pub mod Walks

@@ -4,7 +4,9 @@
 mod binding;
 mod entering;
 mod part;
+mod pattern_layers;
 mod patterns;
+mod type_layers;
 mod types;
 mod walk;
 

@@ -1,18 +1,39 @@
 //! The names in patterns.
-ghost use Rattle.std.specs.Prelude.{◌≡◌, ◌++◌, ◌∷◌, [], OnOk, map};
-ghost use Rattle.mo_scopes.specs.Findings.{together};
+ghost use Rattle.std.specs.Prelude.{◌≡◌, ◌++◌, [], OnOk, map};
 ghost use Rattle.mo_bindings.specs.PatternNames.{in_pattern, in_pattern_field, in_parameters, bound_names, each_binder, whole};
 
+use crate::pattern_layers::{PatternLayers, variable};
 use crate::walk::Walk;
-use mo_name_table::{Names, push_copy};
+use mo_name_table::Names;
 use mo_num::Memory;
-use mo_scopes::{Findings, Scope, identifier, label, together};
+use mo_scopes::{Findings, Scope, together};
 use mo_syntax::{Node, Parameters, Pattern, PatternField};
 
+// A pattern of at most so many levels. One of more levels than there are addresses is none that memory holds.
+fn walk_pattern(
+    walk: Walk,
+    depth: usize,
+    p: &Pattern,
+    scope: &Scope,
+    names: &mut Names,
+    found: &mut Findings,
+) -> Result<(), Memory>
+    ensures found { OnOk result (found.new ≡ found.old ++ (in_pattern p.now).finds scope.now) }
+    ensures names { OnOk result (names.new ≡ names.old ++ (in_pattern p.now).names) }
+{
+    if depth == 0 {
+        return Err(Memory);
+    }
+    let layers = PatternLayers {
+        walk,
+        depth: depth - 1,
+        inner: walk_pattern,
+    };
+    layers.pattern(p, scope, names, found)
+}
+
 impl Walk {
-    /// A part of a pattern. Adds the names that it binds.
-    #[cycle(pattern)]
-    #[tactic(auto, unfolding(crate::specs::PatternNames::in_pattern, crate::specs::PatternNames::in_pattern_field))]
+    /// Adds the names that a part of a pattern binds, and what is found in it.
     pub fn pattern(
         self,
         p: &Pattern,
@@ -23,35 +44,9 @@ impl Walk {
         ensures found { OnOk result (found.new ≡ found.old ++ (in_pattern p.now).finds scope.now) }
         ensures names { OnOk result (names.new ≡ names.old ++ (in_pattern p.now).names) }
     {
-        match p {
-            Pattern::Annotated(p, a) => {
-                self.pattern(p.get(), scope, names, found)?;
-                self.type_expression(a.get(), scope, found)
-            }
-            Pattern::Alternative(p, q) => {
-                self.pattern(p.get(), scope, names, found)?;
-                self.pattern(q.get(), scope, names, found)
-            }
-            Pattern::Optional(p) => self.pattern(p.get(), scope, names, found),
-            Pattern::Tagged(name, None) => label(name, found),
-            Pattern::Tagged(name, Some(p)) => {
-                label(name, found)?;
-                self.pattern(p.get(), scope, names, found)
-            }
-            Pattern::Variable(name) => {
-                push_copy(self.alloc, names, name)?;
-                identifier(name, found)
-            }
-            Pattern::Wildcard => Ok(()),
-            Pattern::Constant(_, _) => Ok(()),
-            Pattern::Parenthesized(items) => self.patterns(items.as_slice(), scope, names, found),
-            Pattern::Object(fields, _) => {
-                self.pattern_fields(fields.as_slice(), scope, names, found)
-            }
-        }
+        walk_pattern(self, usize::MAX, p, scope, names, found)
     }
 
-    #[cycle(pattern)]
     fn patterns(
         self,
         patterns: &[Node<Pattern>],
@@ -62,13 +57,15 @@ impl Walk {
         ensures found { OnOk result (found.new ≡ found.old ++ each_binder (map in_pattern patterns.now) scope.now) }
         ensures names { OnOk result (names.new ≡ names.old ++ bound_names (map in_pattern patterns.now)) }
     {
-        for one in patterns {
-            self.pattern(one.get(), scope, names, found)?;
-        }
-        Ok(())
+        let layers = PatternLayers {
+            walk: self,
+            depth: usize::MAX,
+            inner: walk_pattern,
+        };
+        layers.patterns(patterns, scope, names, found)
     }
 
-    #[cycle(pattern)]
+    /// The same of the fields of a pattern.
     pub fn pattern_fields(
         self,
         fields: &[Node<PatternField>],
@@ -79,29 +76,12 @@ impl Walk {
         ensures found { OnOk result (found.new ≡ found.old ++ each_binder (map in_pattern_field fields.now) scope.now) }
         ensures names { OnOk result (names.new ≡ names.old ++ bound_names (map in_pattern_field fields.now)) }
     {
-        for one in fields {
-            self.pattern_field(one.get(), scope, names, found)?;
-        }
-        Ok(())
-    }
-
-    #[cycle(pattern)]
-    #[tactic(auto, unfolding(crate::specs::PatternNames::in_pattern, crate::specs::PatternNames::in_pattern_field))]
-    fn pattern_field(
-        self,
-        field: &PatternField,
-        scope: &Scope,
-        names: &mut Names,
-        found: &mut Findings,
-    ) -> Result<(), Memory>
-        ensures found { OnOk result (found.new ≡ found.old ++ (in_pattern_field field.now).finds scope.now) }
-        ensures names { OnOk result (names.new ≡ names.old ++ (in_pattern_field field.now).names) }
-    {
-        label(&field.name, found)?;
-        match &field.pattern {
-            None => push_copy(self.alloc, names, &field.name),
-            Some(p) => self.pattern(p.get(), scope, names, found),
-        }
+        let layers = PatternLayers {
+            walk: self,
+            depth: usize::MAX,
+            inner: walk_pattern,
+        };
+        layers.fields(fields, scope, names, found)
     }
 
     fn parameter_list(
@@ -116,10 +96,7 @@ impl Walk {
     {
         match parameters {
             Parameters::List(patterns) => self.patterns(patterns.as_slice(), scope, names, found),
-            Parameters::Single(name) => {
-                push_copy(self.alloc, names, name)?;
-                identifier(name, found)
-            }
+            Parameters::Single(name) => variable(self.alloc, name, names, found),
         }
     }
 
