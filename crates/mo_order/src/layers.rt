@@ -407,6 +407,7 @@ impl<F: Fn(Global, usize, Part<'_>, &mut Names, &mut Lists) -> Result<(), Memory
     }
 
     /// A list of declarations.
+    #[tactic(auto, using(crate::proofs::Folded::occurring_of))]
     fn declarations(
         &self,
         declarations: &[Node<Declaration>],
@@ -424,6 +425,7 @@ impl<F: Fn(Global, usize, Part<'_>, &mut Names, &mut Lists) -> Result<(), Memory
     }
 
     /// The declarations of an object or class.
+    #[tactic(auto, using(crate::proofs::Folded::occurring_of))]
     fn members(
         &self,
         fields: &[Node<DeclarationField>],

@@ -4,7 +4,7 @@ use crate::rule::Breach;
 use mo_num::Sequence;
 
 /// What is found at a name.
-#[derive(Clone, Copy, Debug, PartialEq, Eq)]
+#[derive(Clone, Copy)]
 pub enum Finding {
     /// The name is used, and means this.
     Meaning(Meaning),

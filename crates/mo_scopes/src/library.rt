@@ -4,7 +4,7 @@ ghost use Rattle.mo_scopes.specs.Findings.{contains};
 ghost use Rattle.mo_scopes.specs.Scopes.{built_in_types, library_of, members_of, named, system_functions};
 
 /// A module of the base library.
-#[derive(Clone, Copy, Debug, PartialEq, Eq, Drop)]
+#[derive(Clone, Copy, Drop)]
 pub enum Library {
     Debug,
     Error,
@@ -15,7 +15,7 @@ pub enum Library {
 }
 
 /// A member of a module of the base library.
-#[derive(Clone, Copy, Debug, PartialEq, Eq)]
+#[derive(Clone, Copy, PartialEq, Eq)]
 pub enum Member {
     DebugPrint,
     DebugTrap,
@@ -32,7 +32,7 @@ pub enum Member {
 }
 
 /// A type that needs no declaration.
-#[derive(Clone, Copy, Debug, PartialEq, Eq)]
+#[derive(Clone, Copy, PartialEq, Eq)]
 pub enum BuiltInType {
     Nat,
     Int,

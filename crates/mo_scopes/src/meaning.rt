@@ -3,7 +3,7 @@ use crate::library::{BuiltInType, Member};
 
 /// What a use of a name means (Motoko language manual, "Identifiers"). A level is a place in the list of the values, types or loops that are in scope at the
 /// use, counted from 0 and from the outermost scope.
-#[derive(Clone, Copy, Debug, PartialEq, Eq)]
+#[derive(Clone, Copy, PartialEq, Eq)]
 pub enum Meaning {
     /// The value at this level.
     Value(usize),

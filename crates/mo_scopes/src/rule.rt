@@ -2,7 +2,7 @@
 use mo_syntax::Place;
 
 /// A rule on the names of a program. Of those that are broken at one place the first in this order is named.
-#[derive(Clone, Copy, Debug, PartialEq, Eq)]
+#[derive(Clone, Copy)]
 pub enum Rule {
     /// Each name that is used has a meaning.
     Unknown,
@@ -17,7 +17,7 @@ pub enum Rule {
 }
 
 /// A rule that is broken, and where.
-#[derive(Clone, Copy, Debug, PartialEq, Eq)]
+#[derive(Clone, Copy)]
 pub struct Breach {
     pub rule: Rule,
     pub place: Place,
