@@ -22,8 +22,8 @@ use Rattle.mo_scopes.specs.declared.finding.Finding.{Finding}
 use Rattle.mo_scopes.specs.declared.scope.Scope.{Scope}
 use Rattle.mo_scopes.specs.Findings.{Names, InScope, identifier, label, together, labels, used, each_identifier, each_label, nothing, within, each, each_within}
 use Rattle.mo_scopes.specs.Scopes.{value_meaning, member_meaning, member_fault, loop_meaning, with_values, with_types, with_loop, without_loops}
-use Rattle.mo_bindings.specs.TypeNames.{Entry, names_of, each_entry, in_type}
-use Rattle.mo_bindings.specs.PatternNames.{in_pattern, in_parameters, whole}
+use Rattle.mo_pattern_names.specs.TypeNames.{Entry, names_of, each_entry, in_type}
+use Rattle.mo_pattern_names.specs.PatternNames.{in_pattern, in_parameters, whole}
 
 -- an expression: its name where it is one, and what is found in it
 pub record Whole : Type 0 where

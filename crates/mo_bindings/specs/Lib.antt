@@ -1,4 +1,1 @@
-pub mod TypeNames
-pub mod PatternNames
 pub mod ExpressionNames
-pub mod Walks

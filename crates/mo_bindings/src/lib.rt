@@ -1,15 +1,10 @@
-//! The names in types and patterns, the names that declarations bind, and the scopes that they make.
+//! The names that declarations bind, and the scopes that they make.
 #![tactic(auto)]
 
 mod binding;
 mod entering;
 mod part;
-mod pattern_layers;
-mod patterns;
-mod type_layers;
-mod types;
-mod walk;
 
-pub use binding::{names_in_parameters, names_in_pattern};
+pub use binding::{declared_types, declared_values, names_in_parameters, names_in_pattern};
+pub use entering::{enter_alias, enter_block, enter_function, enter_loop, enter_object};
 pub use part::Part;
-pub use walk::Walk;

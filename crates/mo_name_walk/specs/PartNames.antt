@@ -6,7 +6,7 @@ use Rattle.mo_bindings.specs.declared.part.Part.{Part}
 use Rattle.mo_bindings.specs.declared.part.Part.TheVariants as part
 use Rattle.mo_scopes.specs.declared.finding.Finding.{Finding}
 use Rattle.mo_scopes.specs.declared.scope.Scope.{Scope}
-use Rattle.mo_bindings.specs.declared.walk.Walk.{Walk}
+use Rattle.mo_pattern_names.specs.declared.walk.Walk.{Walk}
 use Rattle.mo_scopes.specs.Findings.{InScope}
 use Rattle.mo_bindings.specs.ExpressionNames.{in_expression, in_declaration}
 

@@ -1,14 +1,15 @@
 //! The layers of declarations: each is walked over the walk of the parts in it.
 ghost use Rattle.std.specs.Prelude.{◌≡◌, ◌++◌, OnOk, map, Option, None};
 ghost use Rattle.mo_scopes.specs.Findings.{identifier};
-ghost use Rattle.mo_bindings.specs.PatternNames.{in_pattern, whole};
+ghost use Rattle.mo_pattern_names.specs.PatternNames.{in_pattern, whole};
 ghost use Rattle.mo_name_walk.specs.PartNames.{Walks};
 ghost use Rattle.mo_bindings.specs.ExpressionNames.{in_expression, in_declaration, in_member, each_declared, each_member, annotation, function, object, alias};
 
 use crate::layers::Layers;
-use mo_bindings::{Part, Walk};
+use mo_bindings::{Part, enter_alias, enter_function};
 use mo_name_table::Names;
 use mo_num::Memory;
+use mo_pattern_names::Walk;
 use mo_scopes::{Findings, Scope, identifier};
 use mo_syntax::{
     Declaration, DeclarationField, Expression, Items, Name, Node, Parameters, Pattern,
@@ -30,7 +31,7 @@ fn type_alias(
 {
     identifier(name, found)?;
     let types = scope.types.len();
-    walk.enter_alias(names, scope, found)?;
+    enter_alias(walk, names, scope, found)?;
     walk.type_expression(kind, scope, found)?;
     scope.forget_types(types);
     Ok(())
@@ -182,8 +183,7 @@ impl<F: Fn(Walk, usize, Part<'_>, &mut Scope, &mut Findings) -> Result<(), Memor
         let values = scope.values.len();
         let types = scope.types.len();
         let loops = scope.hide_loops(self.walk.alloc);
-        self.walk
-            .enter_function(generics, parameters, &None, scope, found)?;
+        enter_function(self.walk, generics, parameters, &None, scope, found)?;
         self.object(fields, scope, found)?;
         scope.leave(values, types, loops);
         Ok(())

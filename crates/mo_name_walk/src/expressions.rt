@@ -4,8 +4,9 @@ ghost use Rattle.mo_bindings.specs.ExpressionNames.{in_expression, in_declaratio
 ghost use Rattle.mo_name_walk.specs.PartNames.{in_part};
 
 use crate::layers::Layers;
-use mo_bindings::{Part, Walk};
+use mo_bindings::Part;
 use mo_num::Memory;
+use mo_pattern_names::Walk;
 use mo_scopes::{Findings, Scope};
 use mo_syntax::{Declaration, Expression};
 

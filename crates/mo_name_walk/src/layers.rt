@@ -2,14 +2,15 @@
 ghost use Rattle.std.specs.Prelude.{◌≡◌, ◌++◌, ◌∷◌, [], OnOk, map, option_map, Option};
 ghost use Rattle.mo_scopes.specs.Findings.{identifier, label, labels, used, each, each_within};
 ghost use Rattle.mo_scopes.specs.Scopes.{loop_meaning, value_meaning, member_meaning, member_fault, with_loop, with_values};
-ghost use Rattle.mo_bindings.specs.TypeNames.{each_entry, names_of, in_type};
-ghost use Rattle.mo_bindings.specs.PatternNames.{in_pattern, whole};
+ghost use Rattle.mo_pattern_names.specs.TypeNames.{each_entry, names_of, in_type};
+ghost use Rattle.mo_pattern_names.specs.PatternNames.{in_pattern, whole};
 ghost use Rattle.mo_name_walk.specs.PartNames.{Walks};
 ghost use Rattle.mo_bindings.specs.ExpressionNames.{in_expression, in_declaration, in_member, in_case, in_field, each_whole, annotation, function, object, block, scoped, bound, optional, operand, field_value};
 
-use mo_bindings::{Part, Walk};
+use mo_bindings::{Part, enter_block, enter_function, enter_loop, enter_object};
 use mo_name_table::{Names, push_copy};
 use mo_num::Memory;
+use mo_pattern_names::Walk;
 use mo_scopes::{Findings, Scope, identifier, label, labels, used};
 use mo_syntax::{
     Case, Declaration, DeclarationField, Expression, ExpressionField, Items, Name, Node,
@@ -340,7 +341,7 @@ impl<F: Fn(Walk, usize, Part<'_>, &mut Scope, &mut Findings) -> Result<(), Memor
         identifier(name, found)?;
         self.walk.annotation(kind, scope, found)?;
         let loops = scope.loops.len();
-        self.walk.enter_loop(name, scope)?;
+        enter_loop(self.walk, name, scope)?;
         self.part(a, scope, found)?;
         scope.forget_loops(loops);
         Ok(())
@@ -378,8 +379,7 @@ impl<F: Fn(Walk, usize, Part<'_>, &mut Scope, &mut Findings) -> Result<(), Memor
         let values = scope.values.len();
         let types = scope.types.len();
         let loops = scope.hide_loops(self.walk.alloc);
-        self.walk
-            .enter_function(generics, parameters, kind, scope, found)?;
+        enter_function(self.walk, generics, parameters, kind, scope, found)?;
         self.part(body, scope, found)?;
         scope.leave(values, types, loops);
         Ok(())
@@ -398,7 +398,7 @@ impl<F: Fn(Walk, usize, Part<'_>, &mut Scope, &mut Findings) -> Result<(), Memor
     {
         let values = scope.values.len();
         let types = scope.types.len();
-        self.walk.enter_object(fields, scope, found)?;
+        enter_object(self.walk, fields, scope, found)?;
         self.each_member(fields, scope, found)?;
         scope.forget_values(values);
         scope.forget_types(types);
@@ -591,7 +591,7 @@ impl<F: Fn(Walk, usize, Part<'_>, &mut Scope, &mut Findings) -> Result<(), Memor
     {
         let values = scope.values.len();
         let types = scope.types.len();
-        self.walk.enter_block(declarations, scope, found)?;
+        enter_block(self.walk, declarations, scope, found)?;
         self.each_declared(declarations, scope, found)?;
         scope.forget_values(values);
         scope.forget_types(types);

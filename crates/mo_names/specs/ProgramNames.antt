@@ -20,7 +20,7 @@ use Rattle.mo_scopes.specs.declared.meaning.Meaning.{Meaning}
 use Rattle.mo_scopes.specs.declared.scope.Scope.{Scope}
 use Rattle.mo_scopes.specs.Findings.{Names, InScope, contains, broken_where, identifier, label, together, labels, each_identifier, nothing}
 use Rattle.mo_scopes.specs.Scopes.{library_of, system_functions, with_values}
-use Rattle.mo_bindings.specs.PatternNames.{Binder, in_pattern, in_pattern_field, bound_names, each_binder, whole}
+use Rattle.mo_pattern_names.specs.PatternNames.{Binder, in_pattern, in_pattern_field, bound_names, each_binder, whole}
 use Rattle.mo_bindings.specs.ExpressionNames.{annotation, function, in_expression, in_declaration}
 
 -- ---- imports

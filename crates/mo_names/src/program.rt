@@ -4,14 +4,15 @@ ghost use Rattle.std.specs.List.{flat_map};
 ghost use Rattle.mo_name_table.specs.Places.{texts};
 ghost use Rattle.mo_scopes.specs.Findings.{identifier, together, labels, each_identifier};
 ghost use Rattle.mo_scopes.specs.Scopes.{library_of, with_values};
-ghost use Rattle.mo_bindings.specs.PatternNames.{whole};
+ghost use Rattle.mo_pattern_names.specs.PatternNames.{whole};
 ghost use Rattle.mo_bindings.specs.ExpressionNames.{header, header_scope, body_scope};
 ghost use Rattle.mo_names.specs.ProgramNames.{in_import, in_context, in_prefix, shared_function, in_actor_field, field_values, field_types, field_methods, field_systems, field_stables, actor_names, name_of, import_names, program_scope, in_actor, findings};
 
-use mo_bindings::Walk;
+use mo_bindings::{declared_types, declared_values};
 use mo_name_table::{NameTable, Names, push_copy};
 use mo_name_walk::{find_in_declaration, find_in_expression};
 use mo_num::{Memory, Sequence};
+use mo_pattern_names::Walk;
 use mo_scopes::{
     Findings, Library, Rule, Scope, broken_where, each_identifier, identifier, is_system_function,
     label, labels, library_of, together,
@@ -204,7 +205,7 @@ impl ProgramWalk {
             ActorField::Public(function) => push_copy(self.walk.alloc, names, &function.get().name),
             ActorField::System(_, _, _) => Ok(()),
             ActorField::Declared(_, declaration) => {
-                self.walk.declared_values(declaration.get(), names)
+                declared_values(self.walk.alloc, declaration.get(), names)
             }
             ActorField::Stable(_, name, _, _) => push_copy(self.walk.alloc, names, name),
         }
@@ -214,7 +215,7 @@ impl ProgramWalk {
         ensures { OnOk result (names.new ≡ names.old ++ field_types field.now) }
     {
         match field {
-            ActorField::Declared(_, declaration) => self.walk.declared_types(declaration.get(), names),
+            ActorField::Declared(_, declaration) => declared_types(self.walk.alloc, declaration.get(), names),
             _ => Ok(()),
         }
     }

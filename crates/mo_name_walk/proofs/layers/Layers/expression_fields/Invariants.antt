@@ -1,5 +1,5 @@
 use Rattle.std.proofs.Common.{◌≡◌, ◌++◌, drop, map}
-use Rattle.mo_bindings.specs.TypeNames.{each_entry, names_of}
+use Rattle.mo_pattern_names.specs.TypeNames.{each_entry, names_of}
 use Rattle.mo_bindings.specs.ExpressionNames.{in_field}
 use Rattle.mo_name_walk.proofs.layers.Layers.expression_fields.Given as goal
 

@@ -1,4 +1,0 @@
-use Rattle.mo_bindings.proofs.patterns.+walk_pattern.Given as goal
-
-abbrev pub decreases-walk_pattern : goal.decreases-walk_pattern
-decreases-walk_pattern l = l.depth
