@@ -54,7 +54,11 @@ fn pattern_names(alloc: Global, p: &Pattern, names: &mut Names) -> Result<(), Me
 }
 
 #[cycle(binding)]
-fn names_of_patterns(alloc: Global, patterns: &[Node<Pattern>], names: &mut Names) -> Result<(), Memory>
+fn names_of_patterns(
+    alloc: Global,
+    patterns: &[Node<Pattern>],
+    names: &mut Names,
+) -> Result<(), Memory>
     ensures { OnOk result (names.new ≡ names.old ++ bound_names (map in_pattern patterns.now)) }
 {
     for one in patterns {
@@ -64,7 +68,11 @@ fn names_of_patterns(alloc: Global, patterns: &[Node<Pattern>], names: &mut Name
 }
 
 #[cycle(binding)]
-fn names_of_fields(alloc: Global, fields: &[Node<PatternField>], names: &mut Names) -> Result<(), Memory>
+fn names_of_fields(
+    alloc: Global,
+    fields: &[Node<PatternField>],
+    names: &mut Names,
+) -> Result<(), Memory>
     ensures { OnOk result (names.new ≡ names.old ++ bound_names (map in_pattern_field fields.now)) }
 {
     for one in fields {

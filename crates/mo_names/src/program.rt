@@ -80,7 +80,8 @@ impl ProgramWalk {
             None => Ok(()),
             Some(Context::Parenthesized(p)) => self.walk.pattern(p.get(), scope, names, found),
             Some(Context::Object(fields, _)) => {
-                self.walk.pattern_fields(fields.as_slice(), scope, names, found)
+                self.walk
+                    .pattern_fields(fields.as_slice(), scope, names, found)
             }
         }
     }
@@ -130,8 +131,10 @@ impl ProgramWalk {
     {
         scope.add_types(Names::new(self.walk.alloc))?;
         let mut values = Names::new(self.walk.alloc);
-        self.walk.whole_parameters(&function.parameters, scope, &mut values, found)?;
-        self.walk.type_expression(function.result.get(), scope, found)?;
+        self.walk
+            .whole_parameters(&function.parameters, scope, &mut values, found)?;
+        self.walk
+            .type_expression(function.result.get(), scope, found)?;
         scope.add_values(values)
     }
 
@@ -215,7 +218,11 @@ impl ProgramWalk {
         ensures { OnOk result (names.new ≡ names.old ++ field_types field.now) }
     {
         match field {
-            ActorField::Declared(_, declaration) => declared_types(self.walk.alloc, declaration.get(), names),
+            ActorField::Declared(_, declaration) => declared_types(
+                self.walk.alloc,
+                declaration.get(),
+                names,
+            ),
             _ => Ok(()),
         }
     }

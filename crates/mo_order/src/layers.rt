@@ -23,12 +23,7 @@ pub(crate) struct Layers<F> {
 }
 
 impl<F: Fn(Global, usize, Part<'_>, &mut Names, &mut Lists) -> Result<(), Memory>> Layers<F> {
-    fn part(
-        &self,
-        e: &Expression,
-        free: &mut Names,
-        lists: &mut Lists,
-    ) -> Result<(), Memory>
+    fn part(&self, e: &Expression, free: &mut Names, lists: &mut Lists) -> Result<(), Memory>
         requires { Notes self.now.depth (F.pre self.now.parts) (F.post self.now.parts) }
         ensures free { OnOk result (free.new ≡ free.old ++ (found e.now).free) }
         ensures lists { OnOk result (lists.new ≡ lists.old ++ (found e.now).lists) }
@@ -70,7 +65,13 @@ impl<F: Fn(Global, usize, Part<'_>, &mut Names, &mut Lists) -> Result<(), Memory
             Expression::Assign(_, a, b) => self.both(a.get(), b.get(), free, lists),
             Expression::Annotated(a, _) => self.part(a.get(), free, lists),
             Expression::Binary(_, a, b) => self.both(a.get(), b.get(), free, lists),
-            Expression::If(condition, a, b) => self.choice(condition.get(), a.get(), b, free, lists),
+            Expression::If(condition, a, b) => self.choice(
+                condition.get(),
+                a.get(),
+                b,
+                free,
+                lists,
+            ),
             Expression::Switch(a, cases, _) => self.switch(a.get(), cases.as_slice(), free, lists),
             Expression::While(condition, a) => self.both(condition.get(), a.get(), free, lists),
             Expression::Loop(a, condition) => self.repeated(a.get(), condition, free, lists),
@@ -87,7 +88,12 @@ impl<F: Fn(Global, usize, Part<'_>, &mut Names, &mut Lists) -> Result<(), Memory
             Expression::Assert(a) => self.part(a.get(), free, lists),
             Expression::Ignore(a) => self.part(a.get(), free, lists),
             Expression::Debug(a) => self.part(a.get(), free, lists),
-            Expression::Function(parameters, _, _, body) => self.function(parameters, body.get(), free, lists),
+            Expression::Function(parameters, _, _, body) => self.function(
+                parameters,
+                body.get(),
+                free,
+                lists,
+            ),
             Expression::ObjectBlock(fields, _) => self.members(fields.as_slice(), free, lists),
             Expression::Optional(a) => self.part(a.get(), free, lists),
             Expression::Negative(a) => self.part(a.get(), free, lists),
@@ -96,7 +102,12 @@ impl<F: Fn(Global, usize, Part<'_>, &mut Names, &mut Lists) -> Result<(), Memory
             Expression::Member(a, _) => self.part(a.get(), free, lists),
             Expression::Projection(a, _) => self.part(a.get(), free, lists),
             Expression::Index(a, b) => self.both(a.get(), b.get(), free, lists),
-            Expression::Call(a, _, arguments) => self.call(a.get(), arguments.as_slice(), free, lists),
+            Expression::Call(a, _, arguments) => self.call(
+                a.get(),
+                arguments.as_slice(),
+                free,
+                lists,
+            ),
             Expression::Bang(a) => self.part(a.get(), free, lists),
             Expression::Constant(_) => Ok(()),
             Expression::Variable(name) => push_copy(self.alloc, free, name),
@@ -104,7 +115,11 @@ impl<F: Fn(Global, usize, Part<'_>, &mut Names, &mut Lists) -> Result<(), Memory
             Expression::Array(_, items) => self.expressions(items.as_slice(), free, lists),
             Expression::Object(fields, _) => self.fields(fields.as_slice(), free, lists),
             Expression::ActorReference(_, _) => Ok(()),
-            Expression::Block(declarations, _) => self.declarations(declarations.as_slice(), free, lists),
+            Expression::Block(declarations, _) => self.declarations(
+                declarations.as_slice(),
+                free,
+                lists,
+            ),
         }
     }
 
@@ -280,12 +295,7 @@ impl<F: Fn(Global, usize, Part<'_>, &mut Names, &mut Lists) -> Result<(), Memory
         Ok(())
     }
 
-    fn cases(
-        &self,
-        cases: &[Node<Case>],
-        free: &mut Names,
-        lists: &mut Lists,
-    ) -> Result<(), Memory>
+    fn cases(&self, cases: &[Node<Case>], free: &mut Names, lists: &mut Lists) -> Result<(), Memory>
         requires { Notes self.now.depth (F.pre self.now.parts) (F.post self.now.parts) }
         ensures free { OnOk result (free.new ≡ free.old ++ free_of (map found_case cases.now)) }
         ensures lists { OnOk result (lists.new ≡ lists.old ++ lists_of (map found_case cases.now)) }
@@ -297,12 +307,7 @@ impl<F: Fn(Global, usize, Part<'_>, &mut Names, &mut Lists) -> Result<(), Memory
     }
 
     #[tactic(auto, using(crate::proofs::Folded::case_free, crate::proofs::Folded::case_lists))]
-    fn case(
-        &self,
-        case: &Case,
-        free: &mut Names,
-        lists: &mut Lists,
-    ) -> Result<(), Memory>
+    fn case(&self, case: &Case, free: &mut Names, lists: &mut Lists) -> Result<(), Memory>
         requires { Notes self.now.depth (F.pre self.now.parts) (F.post self.now.parts) }
         ensures free { OnOk result (free.new ≡ free.old ++ (found_case case.now).free) }
         ensures lists { OnOk result (lists.new ≡ lists.old ++ (found_case case.now).lists) }
@@ -474,9 +479,19 @@ impl<F: Fn(Global, usize, Part<'_>, &mut Names, &mut Lists) -> Result<(), Memory
         match declaration {
             Declaration::Let(_, a) => self.part(a.get(), free, lists),
             Declaration::Var(_, _, a) => self.part(a.get(), free, lists),
-            Declaration::Func(_, _, parameters, _, _, body) => self.function(parameters, body.get(), free, lists),
+            Declaration::Func(_, _, parameters, _, _, body) => self.function(
+                parameters,
+                body.get(),
+                free,
+                lists,
+            ),
             Declaration::TypeAlias(_, _, _) => Ok(()),
-            Declaration::Class(_, _, parameters, fields, _) => self.class(parameters, fields.as_slice(), free, lists),
+            Declaration::Class(_, _, parameters, fields, _) => self.class(
+                parameters,
+                fields.as_slice(),
+                free,
+                lists,
+            ),
             Declaration::NamedObject(_, fields, _) => self.members(fields.as_slice(), free, lists),
             Declaration::Evaluate(a) => self.part(a.get(), free, lists),
         }

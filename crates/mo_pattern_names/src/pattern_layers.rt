@@ -34,7 +34,9 @@ pub(crate) struct PatternLayers<F> {
     pub inner: F,
 }
 
-impl<F: Fn(Walk, usize, &Pattern, &Scope, &mut Names, &mut Findings) -> Result<(), Memory>> PatternLayers<F> {
+impl<
+    F: Fn(Walk, usize, &Pattern, &Scope, &mut Names, &mut Findings) -> Result<(), Memory>,
+> PatternLayers<F> {
     fn part(
         &self,
         p: &Pattern,

@@ -68,13 +68,10 @@ pub(crate) struct TypeLayers<F> {
     pub inner: F,
 }
 
-impl<F: Fn(Walk, usize, &TypeExpression, &Scope, &mut Findings) -> Result<(), Memory>> TypeLayers<F> {
-    fn part(
-        &self,
-        a: &TypeExpression,
-        scope: &Scope,
-        found: &mut Findings,
-    ) -> Result<(), Memory>
+impl<F: Fn(Walk, usize, &TypeExpression, &Scope, &mut Findings) -> Result<(), Memory>> TypeLayers<
+    F,
+> {
+    fn part(&self, a: &TypeExpression, scope: &Scope, found: &mut Findings) -> Result<(), Memory>
         requires { WalksTypes self.now.depth (F.pre self.now.inner) (F.post self.now.inner) }
         ensures { OnOk result (found.new ≡ found.old ++ in_type a.now scope.now) }
     {

@@ -89,11 +89,7 @@ pub fn label(name: &Name, found: &mut Findings) -> Result<(), Memory>
 }
 
 /// The use of a name: its meaning, or that it has none.
-pub fn used(
-    meaning: Option<Meaning>,
-    name: &Name,
-    found: &mut Findings,
-) -> Result<(), Memory>
+pub fn used(meaning: Option<Meaning>, name: &Name, found: &mut Findings) -> Result<(), Memory>
     ensures { OnOk result (found.new ≡ found.old ++ used meaning name.now) }
 {
     match meaning {
