@@ -176,6 +176,22 @@ impl<F: Fn(Walk, usize, &TypeExpression, &Scope, &mut Findings) -> Result<(), Me
         together(self.walk.alloc, names.as_slice(), found)
     }
 
+    fn named_part(
+        &self,
+        name: &Option<Name>,
+        a: &TypeExpression,
+        scope: &Scope,
+        names: &mut Names,
+        found: &mut Findings,
+    ) -> Result<(), Memory>
+        requires { WalksTypes self.now.depth (F.pre self.now.inner) (F.post self.now.inner) }
+        ensures found { OnOk result (found.new ≡ found.old ++ (item_identifier name.now ++ in_type a.now scope.now)) }
+        ensures names { OnOk result (names.new ≡ names.old ++ item_name name.now) }
+    {
+        named_item(self.walk.alloc, name, names, found)?;
+        self.part(a, scope, found)
+    }
+
     #[tactic(auto, unfolding(crate::specs::TypeNames::in_type, crate::specs::TypeNames::in_type_field, crate::specs::TypeNames::in_type_item, crate::specs::TypeNames::in_type_method, crate::specs::TypeNames::in_type_tag))]
     fn item(
         &self,
@@ -188,8 +204,23 @@ impl<F: Fn(Walk, usize, &TypeExpression, &Scope, &mut Findings) -> Result<(), Me
         ensures found { OnOk result (found.new ≡ found.old ++ (in_type_item item.now).finds scope.now) }
         ensures names { OnOk result (names.new ≡ names.old ++ (in_type_item item.now).names) }
     {
-        named_item(self.walk.alloc, &item.name, names, found)?;
-        self.part(item.annotation.get(), scope, found)
+        self.named_part(&item.name, item.annotation.get(), scope, names, found)
+    }
+
+    fn labelled(
+        &self,
+        name: &Name,
+        a: &TypeExpression,
+        scope: &Scope,
+        names: &mut Names,
+        found: &mut Findings,
+    ) -> Result<(), Memory>
+        requires { WalksTypes self.now.depth (F.pre self.now.inner) (F.post self.now.inner) }
+        ensures found { OnOk result (found.new ≡ found.old ++ (label name.now ++ in_type a.now scope.now)) }
+        ensures names { OnOk result (names.new ≡ names.old ++ name.now ∷ []) }
+    {
+        named_label(self.walk.alloc, name, names, found)?;
+        self.part(a, scope, found)
     }
 
     fn fields(
@@ -220,8 +251,7 @@ impl<F: Fn(Walk, usize, &TypeExpression, &Scope, &mut Findings) -> Result<(), Me
         ensures found { OnOk result (found.new ≡ found.old ++ (in_type_field field.now).finds scope.now) }
         ensures names { OnOk result (names.new ≡ names.old ++ (in_type_field field.now).name ∷ []) }
     {
-        named_label(self.walk.alloc, &field.name, names, found)?;
-        self.part(field.annotation.get(), scope, found)
+        self.labelled(&field.name, field.annotation.get(), scope, names, found)
     }
 
     fn methods(
@@ -252,8 +282,7 @@ impl<F: Fn(Walk, usize, &TypeExpression, &Scope, &mut Findings) -> Result<(), Me
         ensures found { OnOk result (found.new ≡ found.old ++ (in_type_method method.now).finds scope.now) }
         ensures names { OnOk result (names.new ≡ names.old ++ (in_type_method method.now).name ∷ []) }
     {
-        named_label(self.walk.alloc, &method.name, names, found)?;
-        self.part(method.annotation.get(), scope, found)
+        self.labelled(&method.name, method.annotation.get(), scope, names, found)
     }
 
     fn tags(
@@ -287,6 +316,22 @@ impl<F: Fn(Walk, usize, &TypeExpression, &Scope, &mut Findings) -> Result<(), Me
         }
     }
 
+    fn tagged(
+        &self,
+        name: &Name,
+        payload: &Option<Node<TypeExpression>>,
+        scope: &Scope,
+        names: &mut Names,
+        found: &mut Findings,
+    ) -> Result<(), Memory>
+        requires { WalksTypes self.now.depth (F.pre self.now.inner) (F.post self.now.inner) }
+        ensures found { OnOk result (found.new ≡ found.old ++ (label name.now ++ within (option_map in_type payload.now) scope.now)) }
+        ensures names { OnOk result (names.new ≡ names.old ++ name.now ∷ []) }
+    {
+        named_label(self.walk.alloc, name, names, found)?;
+        self.payload(payload, scope, found)
+    }
+
     #[tactic(auto, unfolding(crate::specs::TypeNames::in_type, crate::specs::TypeNames::in_type_field, crate::specs::TypeNames::in_type_item, crate::specs::TypeNames::in_type_method, crate::specs::TypeNames::in_type_tag))]
     fn tag(
         &self,
@@ -299,7 +344,6 @@ impl<F: Fn(Walk, usize, &TypeExpression, &Scope, &mut Findings) -> Result<(), Me
         ensures found { OnOk result (found.new ≡ found.old ++ (in_type_tag tag.now).finds scope.now) }
         ensures names { OnOk result (names.new ≡ names.old ++ (in_type_tag tag.now).name ∷ []) }
     {
-        named_label(self.walk.alloc, &tag.name, names, found)?;
-        self.payload(&tag.payload, scope, found)
+        self.tagged(&tag.name, &tag.payload, scope, names, found)
     }
 }
