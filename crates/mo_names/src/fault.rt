@@ -2,8 +2,8 @@
 ghost use Rattle.std.specs.Prelude.{◌≡◌};
 ghost use Rattle.mo_names.specs.Bound.{fault_of};
 
-use crate::rule::{Breach, Rule};
 use mo_num::Memory;
+use mo_scopes::{Breach, Rule};
 use mo_syntax::Place;
 
 /// Why the names of a program are refused, and where: the condition of this name is false at the name that stands there.
@@ -32,17 +32,18 @@ impl From<Memory> for NameFault {
     }
 }
 
-impl Breach {
-    /// The fault that it is.
-    pub fn fault(self) -> NameFault
-        ensures { result ≡ fault_of self }
+impl NameFault {
+    /// The fault that a breach is.
+    pub fn from_breach(breach: Breach) -> NameFault
+        ensures { result ≡ fault_of breach }
     {
-        match self.rule {
-            Rule::Unknown => NameFault::Unknown(self.place),
-            Rule::Twice => NameFault::Twice(self.place),
-            Rule::UsedBeforeDefined => NameFault::UsedBeforeDefined(self.place),
-            Rule::LabelClash => NameFault::LabelClash(self.place),
-            Rule::Reserved => NameFault::Reserved(self.place),
+        let place = breach.place;
+        match breach.rule {
+            Rule::Unknown => NameFault::Unknown(place),
+            Rule::Twice => NameFault::Twice(place),
+            Rule::UsedBeforeDefined => NameFault::UsedBeforeDefined(place),
+            Rule::LabelClash => NameFault::LabelClash(place),
+            Rule::Reserved => NameFault::Reserved(place),
         }
     }
 }
