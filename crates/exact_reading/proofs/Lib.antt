@@ -1,0 +1,4 @@
+pub mod Exact
+pub mod Numbers
+pub mod Lists
+pub mod Loops
