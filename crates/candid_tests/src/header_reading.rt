@@ -49,8 +49,12 @@ fn headers_are_read(rt: HostRuntime) {
 }
 
 const FAULTS: &[(&[u8], Fault)] = &[
-    (b"", Fault::NotDidl),
-    (b"DID", Fault::NotDidl),
+    // Fewer than the first four bytes, and others than these.
+    (b"", Fault::Short),
+    (b"D", Fault::Short),
+    (b"DI", Fault::Short),
+    (b"DID", Fault::Short),
+    (b"DIM", Fault::NotDidl),
     (b"DIDM\0\0", Fault::NotDidl),
     (b"DIDL", Fault::Short),
     (b"DIDL\x01", Fault::Short),

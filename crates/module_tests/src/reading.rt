@@ -92,6 +92,8 @@ const MALFORMED: &[&[u8]] = &[
     // The 0 of memory.grow and of call_indirect, padded.
     b"\x01\x04\x01\x60\0\0\x03\x02\x01\0\x0a\x07\x01\x05\0\x40\x80\0\x0b",
     b"\x01\x04\x01\x60\0\0\x03\x02\x01\0\x0a\x08\x01\x06\0\x11\0\x80\0\x0b",
+    // Groups of 2^32 - 1 locals and of one more, of a float type: the second count comes before its type.
+    b"\x01\x04\x01\x60\0\0\x03\x02\x01\0\x0a\x0c\x01\x0a\x02\xff\xff\xff\xff\x0f\x7f\x01\x7d\x0b",
     // An element type that is the code of a float type, and a name that is no UTF-8.
     b"\x04\x04\x01\x7d\0\0",
     b"\0\x02\x01\xff",
