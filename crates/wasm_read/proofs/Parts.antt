@@ -4,6 +4,7 @@ use Rattle.std.proofs.Common.{◌+◌, ◌<◌, ◌^◌, arith}
 use Rattle.std.specs.Prelude.{nat_lt}
 use Rattle.std.proofs.lemmas.Bool.{ltb-true, lt-ltb}
 use Rattle.std.specs.List.{sum_by}
+use Rattle.std.proofs.lemmas.List.Sums.{sum_by-cons}
 use Rattle.wasm_tree.specs.declared.types.ValueType.{ValueType}
 use Rattle.wasm_tree.specs.declared.types.Limits.{Limits}
 use Rattle.wasm_tree.specs.declared.op.Op.{Op}
@@ -189,7 +190,7 @@ abbrev counts : List Locals → ℕ
 counts groups = sum_by (λ l. l.count) groups
 
 add_count : (g : Locals) (gs : List Locals) → counts (g ∷ gs) ≡ g.count + counts gs
-add_count g gs = refl
+add_count g gs = sum_by-cons (λ l. l.count) g gs
 
 few_sum : (before : ℕ) (groups : List Locals) → before < 2 ^ 32 → Linked IsFew with_group before groups → before + counts groups < 2 ^ 32
 few_sum before [] h k = omega (arith, h)
