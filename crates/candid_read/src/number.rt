@@ -4,7 +4,6 @@ ghost use Rattle.exact_reading.specs.Reading.{Tells};
 ghost use Rattle.candid_read.specs.Parts.{nat_at, int_at, char_at, is_scalar, low_at, signed, signed_at, unsigned_at};
 
 use candid_header::Fault;
-use exact_reading::{read_signed, read_unsigned};
 use mo_types::Datum;
 
 /// A number from 0 to 2^63 - 1, in at most ten bytes.
@@ -12,7 +11,7 @@ use mo_types::Datum;
 pub fn read_nat(bytes: &[u8]) -> Result<(Datum, &[u8]), Fault>
     ensures { Tells (λ x. (x.0, x.1.now)) result (nat_at bytes.now) }
 {
-    let (value, rest) = read_unsigned(Fault::Short, Fault::NumberLimit, 70, bytes)?;
+    let (value, rest) = exact_reading::read_unsigned(Fault::Short, Fault::NumberLimit, 70, bytes)?;
     if value < 1 << 63 {
         Ok((Datum::Number(value as i128), rest))
     } else {
@@ -25,7 +24,7 @@ pub fn read_nat(bytes: &[u8]) -> Result<(Datum, &[u8]), Fault>
 pub fn read_int(bytes: &[u8]) -> Result<(Datum, &[u8]), Fault>
     ensures { Tells (λ x. (x.0, x.1.now)) result (int_at bytes.now) }
 {
-    let (value, rest) = read_signed(Fault::Short, Fault::NumberLimit, 70, bytes)?;
+    let (value, rest) = exact_reading::read_signed(Fault::Short, Fault::NumberLimit, 70, bytes)?;
     if -0x8000_0000_0000_0000 <= value && value <= 0x7fff_ffff_ffff_ffff {
         Ok((Datum::Number(value), rest))
     } else {

@@ -308,7 +308,7 @@ fn messages_of_several_values_are_read(rt: HostRuntime) {
 }
 
 const FAULTS: &[(usize, &[u8], Fault)] = &[
-    (0, b"", Fault::NotDidl),
+    (0, b"", Fault::Short),
     (0, b"DIDM\0\x01\x7d\x07", Fault::NotDidl),
     (0, b"DIDL\x01\x7d\x01\0\x07", Fault::BadTable),
     (0, b"DIDL\0\x01\x01\x07", Fault::BadTable),
