@@ -1,9 +1,6 @@
 -- Lists of a header are read exactly.
-use Rattle.std.proofs.Common.{◌≡◌, ℕ, zero, suc, ◌≤◌, true, false, cond, List, [], ◌∷◌, ◌++◌, length, take, drop, Option, Some, None, Result, Ok, Err, ◌⊎◌, inl, inr, refl, sym, ap, ◌∙◌, subst, append_assoc, length-append, arith}
-use Rattle.std.specs.Prelude.{nat_lt}
-use Rattle.std.proofs.lemmas.Bool.{lt-ltb, le-ltb, ltb-true, ltb-false}
-use Rattle.std.proofs.Math.Seq.{drop-append_seam, take-append_seam}
-use Rattle.std.proofs.Common.{take-append-drop, length-take-le}
+use Rattle.std.proofs.Common.{◌≡◌, ℕ, true, List, [], ◌∷◌, ◌++◌, length, Option, Some, None, Ok, refl, ap, ◌∙◌}
+use Rattle.std.proofs.lemmas.Bool.{lt-ltb, ltb-true}
 use Rattle.mo_types.specs.Sub.{Each}
 use Rattle.mo_types.specs.declared.wire.Entry.{Entry}
 use Rattle.mo_types.specs.declared.wire.Method.{Method}
@@ -12,10 +9,9 @@ use Rattle.mo_types.specs.Spelling.{padded, Then, IsString}
 use Rattle.mo_types.specs.Header.{IsByte, IsEach, IsList, IsField, IsMethod, IsTableRef, IsWithin, RisingIds, RisingNames}
 use Rattle.candid_header.specs.declared.fault.Fault.{Fault}
 use Rattle.candid_header.specs.declared.fault.Fault.TheVariants.{BadTable, Short}
-use Rattle.exact_reading.specs.Reading.{◌>>=◌}
-use Rattle.candid_header.specs.Reading.{Reading, many, list_at, u32_at, split_at, string_at}
+use Rattle.candid_header.specs.Reading.{Reading, many, list_at, u32_at, string_at}
 use Rattle.candid_header.specs.Table.{ref_item, no_state, rises, id_at, field, field_at, id_of, name_rises, method_name_at, method, method_at, name_of, ref_at, refs_at, bytes_at}
-use Rattle.exact_reading.proofs.Exact.{Front, Exact, refused, refused_ok, ok_is, bind_ok, chosen, same_pair, renamed, made_exact, kept_exact}
+use Rattle.exact_reading.proofs.Exact.{Front, Exact, renamed, made_exact, kept_exact}
 use Rattle.candid_header.proofs.Exact.{okay, joins, both_exact}
 use Rattle.exact_reading.proofs.Lists as exact
 use Rattle.candid_header.proofs.Numbers.{IsU32, u32_exact}

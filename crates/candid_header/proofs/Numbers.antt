@@ -1,9 +1,5 @@
 -- Numbers are read exactly.
-use Rattle.std.proofs.Common.{ℕ, List, ℤ, pos, negsuc, arith}
-use Rattle.std.specs.Prelude.{FitsSigned}
-use Rattle.std.specs.Int.{w64}
-use Rattle.std.proofs.lemmas.Int.{ints}
-use Rattle.mo_num.specs.LebRead.{IsSigned}
+use Rattle.std.proofs.Common.{ℕ, List, ℤ}
 use Rattle.mo_types.specs.Spelling.{padded}
 use Rattle.exact_reading.proofs.Exact.{Exact}
 use Rattle.exact_reading.proofs.Numbers.{unsigned_exact, signed_exact}

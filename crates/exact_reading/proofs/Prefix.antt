@@ -1,6 +1,5 @@
 -- Bytes that stand at the front.
 use Rattle.std.proofs.Common.{◌≡◌, ℕ, cond, List, [], ◌∷◌, ◌++◌, Ok, Err, refl, ap, ◌∙◌}
-use Rattle.std.specs.Prelude.{nat_eq}
 use Rattle.std.proofs.lemmas.Bool.{eq-eqb}
 use Rattle.exact_reading.specs.Prefix.{prefix_at}
 use Rattle.exact_reading.proofs.Exact.{ok_is, if_ok, not_ok, eq_is}

@@ -29,12 +29,7 @@ pub fn read_unsigned<F: Copy>(
 }
 
 /// A signed number of so many bits (1 to 128), and what comes after it.
-pub fn read_signed<F: Copy>(
-    short: F,
-    wide: F,
-    bits: u32,
-    bytes: &[u8],
-) -> Result<(i128, &[u8]), F>
+pub fn read_signed<F: Copy>(short: F, wide: F, bits: u32, bytes: &[u8]) -> Result<(i128, &[u8]), F>
     requires some { 1 ≤ bits }
     requires most { bits ≤ 128 }
     ensures told { Tells (λ x. (x.0, x.1.now)) result (signed_at short wide bits bytes.now) }

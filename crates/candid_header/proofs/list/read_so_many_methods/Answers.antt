@@ -1,7 +1,5 @@
-use Rattle.std.proofs.Common.{ℕ, List, None, sym, ap, subst, ◌∙◌}
+use Rattle.std.proofs.Common.{None, sym, ap, subst, ◌∙◌}
 use Rattle.std.proofs.lemmas.Result.{err_from_is_err_and}
-use Rattle.mo_types.specs.declared.wire.Method.{Method}
-use Rattle.mo_types.specs.declared.wire.TableRef.{TableRef}
 use Rattle.exact_reading.specs.Reading.{Fails}
 use Rattle.candid_header.specs.Reading.{many}
 use Rattle.candid_header.specs.Table.{method_at, name_of, last_name}

@@ -1,6 +1,5 @@
-use Rattle.std.proofs.Common.{ℕ, None, refl}
+use Rattle.std.proofs.Common.{None, refl}
 use Rattle.std.proofs.lemmas.Result.{err_from_is_err_and}
-use Rattle.mo_types.specs.declared.wire.TableRef.{TableRef}
 use Rattle.candid_header.specs.Reading.{many}
 use Rattle.candid_header.specs.Table.{ref_item, no_state}
 use Rattle.exact_reading.proofs.Loops.{begins, goes_on, ends, is_done}
