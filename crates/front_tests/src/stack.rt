@@ -1,5 +1,5 @@
-//! Sources whose reading could take more of the native stack than there is, and others close to them. How many constructs are open at a token
-//! was counted by hand.
+//! Sources whose reading could take more of the native stack than there is, and others close to them. What is counted at a token was counted
+//! by hand.
 use mo_lexer::lex;
 use mo_num::Bytes;
 use mo_parser::{ParseFault, parse};
@@ -55,6 +55,24 @@ const CALLS: Nest = Nest {
     tail: b" }",
 };
 
+// A sum of calls with types, of which each `,` resets the depth.
+const SUM_OF_CALLS: Nest = Nest {
+    head: b"actor { func f<A,B>(x : A) : A { x }; let s : Nat = ",
+    open: b"f<Nat,Nat>(1) + ",
+    middle: b"f<Nat,Nat>(1)",
+    close: b"",
+    tail: b" }",
+};
+
+// Sums to the left of sums: none stands deep, but the innermost stands in all of them.
+const SUMS: Nest = Nest {
+    head: b"actor { let x = ",
+    open: b"(",
+    middle: b"1",
+    close: b")+ 1+ 1+ 1+ 1+ 1+ 1+ 1+ 1+ 1+ 1",
+    tail: b" }",
+};
+
 impl Nest {
     fn source(&self, alloc: Global, count: usize) -> Result<Bytes, Fail> {
         let mut source = Bytes::from_slice(alloc, self.head)?;
@@ -85,16 +103,20 @@ fn fault_of(alloc: Global, source: &[u8]) -> Result<Option<ParseFault>, Fail> {
     }
 }
 
-// Before the first piece 6 constructs may be open: two in the whole text, and four in the actor. A `F<A,` opens two more and a `F<A,A>->` four,
-// an `if` eight and a call four. The token behind them counts one.
+// Before the first piece 7 are counted: two for `actor`, two for its bracket, two for `let` or `type`, and one for the `=`. A `F<A,` takes two more,
+// as its bracket is open. A `F<A,A>->` takes two for the `->`, and two once for a `< >` that was closed. An `if` takes four with its `else`, and the
+// call in it three once. A call takes one, and two once for the `< >`. A sum takes one a sign, one for the `:`, and three once for a call. Each
+// bracket of `SUMS` takes 13: two itself, one as a call may, and ten signs.
 #[test]
 fn at_the_limit(rt: HostRuntime) -> Result<(), Fail> {
     let alloc = rt.alloc();
     for (nest, most) in [
-        (ARGUMENTS, 496),
-        (FUNCTIONS, 248),
-        (CHOICES, 124),
-        (CALLS, 248),
+        (ARGUMENTS, 996),
+        (FUNCTIONS, 995),
+        (CHOICES, 497),
+        (CALLS, 1_991),
+        (SUM_OF_CALLS, 1_989),
+        (SUMS, 153),
     ] {
         let held = nest.source(alloc, most)?;
         assert_eq!(rt; fault_of(alloc, held.as_slice())?, None, "{most}");
@@ -104,6 +126,17 @@ fn at_the_limit(rt: HostRuntime) -> Result<(), Fail> {
             Some(ParseFault::Memory),
             "{most}"
         );
+    }
+    Ok(())
+}
+
+// A sum of as many calls, with the last one.
+#[test]
+fn sums_of_calls(rt: HostRuntime) -> Result<(), Fail> {
+    let alloc = rt.alloc();
+    for terms in [166, 1_000] {
+        let source = SUM_OF_CALLS.source(alloc, terms - 1)?;
+        assert_eq!(rt; fault_of(alloc, source.as_slice())?, None, "{terms}");
     }
     Ok(())
 }
@@ -131,6 +164,17 @@ fn many_functions(rt: HostRuntime) -> Result<(), Fail> {
 #[test]
 fn many_choices(rt: HostRuntime) -> Result<(), Fail> {
     expect_memory(&rt, rt.alloc(), &CHOICES, 50_000)
+}
+
+// As deep as the depth lets, and far more behind.
+#[test]
+fn many_sums(rt: HostRuntime) -> Result<(), Fail> {
+    expect_memory(&rt, rt.alloc(), &SUMS, 370)
+}
+
+#[test]
+fn many_terms(rt: HostRuntime) -> Result<(), Fail> {
+    expect_memory(&rt, rt.alloc(), &SUM_OF_CALLS, 60_000)
 }
 
 #[test]
