@@ -5,20 +5,27 @@ ghost use Rattle.mo_names.specs.Bound.{fault_of};
 use mo_num::Memory;
 use mo_scopes::{Breach, Rule};
 use mo_syntax::Place;
+use thiserror::Error;
 
 /// Why the names of a program are refused, and where: the condition of this name is false at the name that stands there.
-#[derive(Clone, Copy, Debug, PartialEq, Eq)]
+#[derive(Clone, Copy, Debug, PartialEq, Eq, Error)]
 pub enum NameFault {
     /// A name has no meaning where it is used.
+    #[error("the name at byte {start} has no meaning", start = .0.start)]
     Unknown(Place),
     /// A name is bound twice in one list, pattern or type.
+    #[error("the name at byte {start} is bound twice", start = .0.start)]
     Twice(Place),
     /// A value is used before it is defined.
+    #[error("the value at byte {start} is used before it is defined", start = .0.start)]
     UsedBeforeDefined(Place),
     /// Two labels of one object, variant or actor, or two stable variables, have equal numbers in Candid.
+    #[error("the label at byte {start} has the number of another", start = .0.start)]
     LabelClash(Place),
     /// An identifier begins with `__`, or a label is `_`, digits and `_`.
+    #[error("the name at byte {start} is reserved", start = .0.start)]
     Reserved(Place),
+    #[error("there was no memory")]
     Memory,
 }
 
