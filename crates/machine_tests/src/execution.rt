@@ -142,12 +142,12 @@ fn make_layout(a: Global) -> Result<ModuleLayout, AllocError>
 // How an execution with so many steps and stack words ends, and what its first cell holds then.
 fn outcome(
     alloc: Global,
-    module: &Module,
+    tree: &Module,
     layout: &ModuleLayout,
     steps: u64,
     words: usize,
 ) -> Result<(Result<u64, Stop>, u64), AllocError>
-    requires module { module.now ≡ the_module }
+    requires tree { tree.now ≡ the_module }
     requires layout { layout.now ≡ the_layout }
     requires words { words ≤ 16 }
 {
@@ -165,7 +165,7 @@ fn outcome(
     let mut host = NoHost;
     let end = execute(
         &mut host,
-        module,
+        tree,
         layout,
         &[],
         0,
@@ -186,7 +186,7 @@ fn outcome(
 #[test]
 fn sums(rt: HostRuntime) -> Result<(), Fail> {
     let a = rt.alloc();
-    let module = make_module(a)?;
+    let tree = make_module(a)?;
     let layout = make_layout(a)?;
     for (steps, words, end, sum) in [
         (20_000, 13, Ok(8_000), 499_500),
@@ -197,7 +197,7 @@ fn sums(rt: HostRuntime) -> Result<(), Fail> {
         (20_000, 12, Err(Stop::Trapped(Trap::Stack)), 0),
     ] {
         assert!(rt; words <= 16);
-        let found = outcome(a, &module, &layout, steps, words)?;
+        let found = outcome(a, &tree, &layout, steps, words)?;
         assert_eq!(rt; found, (end, sum), "{steps} {words}");
     }
     Ok(())

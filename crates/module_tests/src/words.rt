@@ -1,9 +1,9 @@
-//! Numeric and memory instructions on words, at their edges.
+//! Numeric instructions and loads on words, at their edges.
 use std::process::Abort;
-use wasm_numeric::{binary, compare, convert, equals_zero, load, store, unary};
+use wasm_numeric::{binary, compare, convert, equals_zero, load, unary};
 use wasm_tree::BinaryOperator::{self, *};
 use wasm_tree::Comparison::{self, Eq, GeS, GeU, GtS, GtU, LeS, LeU, LtS, LtU, Ne};
-use wasm_tree::{Conversion, LoadKind, StoreKind, Trap, UnaryOperator, ValueType};
+use wasm_tree::{Conversion, LoadKind, Trap, UnaryOperator, ValueType};
 
 // The least, the greatest and -1 as signed integers, as bits.
 const LEAST32: u64 = 0x8000_0000;
@@ -325,59 +325,4 @@ fn loads(rt: HostRuntime) {
     for (kind, value) in LOADS_AT_1 {
         assert_eq!(rt; load(*kind, MEMORY, 1), Some(*value), "{kind:?}");
     }
-}
-
-// The last address that is inside, and the ten bytes after a store there.
-const STORES: &[(StoreKind, u64, [u8; 10])] = &[
-    (
-        StoreKind::I32,
-        6,
-        [9, 9, 9, 9, 9, 9, 0x88, 0x77, 0x66, 0x55],
-    ),
-    (
-        StoreKind::I64,
-        2,
-        [9, 9, 0x88, 0x77, 0x66, 0x55, 0x44, 0x33, 0x22, 0x11],
-    ),
-    (StoreKind::I32To8, 9, [9, 9, 9, 9, 9, 9, 9, 9, 9, 0x88]),
-    (StoreKind::I32To16, 8, [9, 9, 9, 9, 9, 9, 9, 9, 0x88, 0x77]),
-    (StoreKind::I64To8, 9, [9, 9, 9, 9, 9, 9, 9, 9, 9, 0x88]),
-    (StoreKind::I64To16, 8, [9, 9, 9, 9, 9, 9, 9, 9, 0x88, 0x77]),
-    (
-        StoreKind::I64To32,
-        6,
-        [9, 9, 9, 9, 9, 9, 0x88, 0x77, 0x66, 0x55],
-    ),
-];
-
-/// Whether a store outside of ten bytes is refused, and leaves them.
-fn is_outside(kind: StoreKind, address: u64) -> bool {
-    let mut memory = [9u8; 10];
-    !store(kind, &mut memory, address, 0) && memory == [9u8; 10]
-}
-
-/// Whether a store makes these of ten bytes.
-fn makes(kind: StoreKind, address: u64, value: u64, after: &[u8; 10]) -> bool {
-    let mut memory = [9u8; 10];
-    store(kind, &mut memory, address, value) && memory == *after
-}
-
-fn expect_no_store(rt: &impl Abort, kind: StoreKind, last: u64) {
-    assert!(rt; is_outside(kind, last.wrapping_add(1)), "{kind:?}");
-    for far in FAR {
-        assert!(rt; is_outside(kind, *far), "{kind:?} {far}");
-    }
-}
-
-#[test]
-fn stores(rt: HostRuntime) {
-    for (kind, last, after) in STORES {
-        expect_no_store(&rt, *kind, *last);
-        assert!(rt;
-            makes(*kind, *last, 0x1122_3344_5566_7788, after),
-            "{kind:?}"
-        );
-    }
-    let after = [9, 9, 9, 0, 0, 9, 9, 9, 9, 9];
-    assert!(rt; makes(StoreKind::I32To16, 3, 0x1_0000, &after));
 }

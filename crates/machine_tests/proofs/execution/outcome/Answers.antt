@@ -14,7 +14,7 @@ callable : (m : Module) → m ≡ the_module → IsCallable m 0 []
 callable m em = subst (λ (x : Module). IsCallable x 0 []) (sym em) (record { type = the_type; of_type = refl; many = refl; none = refl })
 
 pub execute-end-requires-clause-laid : goal.execute-end-requires-clause-laid
-execute-end-requires-clause-laid c = laid_by _ _ c.requires.module c.requires.layout
+execute-end-requires-clause-laid c = laid_by _ _ c.requires.tree c.requires.layout
 
 pub execute-end-requires-clause-callable : goal.execute-end-requires-clause-callable
-execute-end-requires-clause-callable c = callable _ c.requires.module
+execute-end-requires-clause-callable c = callable _ c.requires.tree
