@@ -6,8 +6,6 @@ mod difference;
 mod lines;
 mod mask;
 mod starts;
-#[cfg(test)]
-mod tests;
 
 pub use ascii::ascii_prefix;
 pub use difference::first_difference;

@@ -3,12 +3,15 @@ ghost use Rattle.std.specs.Prelude.{◌≡◌};
 ghost use Rattle.candid_encode.specs.declared.refusal.Refusal.TheVariants.{Memory};
 
 use candid_header::Stop;
+use thiserror::Error;
 
 /// Why values are not written.
-#[derive(Clone, Copy, Debug, PartialEq, Eq)]
+#[derive(Clone, Copy, Debug, PartialEq, Eq, Error)]
 pub enum Refusal {
     /// They are not values of these types.
+    #[error("the values are not of these types")]
     OtherValues,
+    #[error("there was no memory")]
     Memory,
 }
 

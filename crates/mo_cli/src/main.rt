@@ -3,8 +3,6 @@
 
 mod compile;
 mod help;
-#[cfg(test)]
-mod host_tests;
 mod line;
 mod replay;
 mod run;
@@ -13,10 +11,12 @@ mod status;
 mod tests;
 
 use crate::help::{HELP, VERSION};
+use crate::line::tell;
 use crate::run::run_mo;
 use crate::status::Status;
 use outer::{RealFiles, RealSink};
 use std::alloc::{AllocError, Global};
+use std::io::ErrorKind;
 use std::process::ExitCode;
 use std::{env, io};
 
@@ -27,6 +27,25 @@ fn words_of(alloc: Global, args: env::Args) -> Result<Vec<String>, AllocError> {
         words.push(word)?;
     }
     Ok(words)
+}
+
+// How the program ends where it gets no words: one of them is not UTF-8, or there was no memory for them.
+fn without_words(error: &io::Error) -> Status {
+    if error.kind() == ErrorKind::OutOfMemory {
+        Status::NoMemory
+    } else {
+        Status::Usage
+    }
+}
+
+fn read_args(alloc: Global, args: io::Result<env::Args>) -> Result<Vec<String>, Status> {
+    match args {
+        Ok(args) => match words_of(alloc, args) {
+            Ok(words) => Ok(words),
+            Err(_) => Err(Status::NoMemory),
+        },
+        Err(error) => Err(without_words(&error)),
+    }
 }
 
 // What `--help` or `--version` alone prints.
@@ -47,11 +66,10 @@ fn notice(words: &[String]) -> Option<&'static str> {
 
 fn main(rt: HostRuntime) -> ExitCode {
     let alloc = rt.alloc();
-    let Ok(args) = env::args(&rt) else {
-        return ExitCode::from(Status::Usage.code());
-    };
-    let Ok(words) = words_of(alloc, args) else {
-        return ExitCode::from(Status::NoMemory.code());
+    let mut err = RealSink::new(rt.stderr());
+    let words = match read_args(alloc, env::args(&rt)) {
+        Ok(words) => words,
+        Err(status) => return ExitCode::from(tell(alloc, status, &mut err).code()),
     };
     if let Some(text) = notice(words.as_slice()) {
         return match print!(rt; "{text}") {
@@ -61,7 +79,6 @@ fn main(rt: HostRuntime) -> ExitCode {
     }
     let mut files = RealFiles::new(&rt);
     let mut out = RealSink::new(io::writer(&rt));
-    let mut err = RealSink::new(rt.stderr());
     let status = run_mo(alloc, words.as_slice(), &mut files, &mut out, &mut err);
     ExitCode::from(status.code())
 }

@@ -3,12 +3,16 @@ ghost use Rattle.std.specs.Prelude.{◌≡◌, ◌^◌, ◌<◌, ◌≤◌, ℤ,
 ghost use Rattle.mo_num.specs.Leb.{IsSleb};
 ghost use Rattle.mo_num.specs.LebRead.{ReadsLeb, ReadsSleb, IsSigned};
 
+use thiserror::Error;
+
 /// Why no number could be read.
-#[derive(Clone, Copy, Debug, PartialEq, Eq)]
+#[derive(Clone, Copy, Debug, PartialEq, Eq, Error)]
 pub enum LebFault {
     /// The bytes end before the number does, and the number may be longer than they are.
+    #[error("the bytes end inside a number")]
     Short,
     /// The number is longer than its width allows, or its value needs more bits.
+    #[error("a number is wider than its type")]
     TooWide,
 }
 

@@ -34,6 +34,3 @@ pub use principal_laws::{principal_text_one, principal_text_some};
 pub use principal_text::principal_read;
 pub use sequence::Sequence;
 pub use wrap::{add_wrap, mul_wrap, sub_wrap};
-
-#[cfg(test)]
-mod tests;

@@ -11,7 +11,7 @@ use Rattle.canister_host.specs.HostRun.{host_run}
 
 -- The canister's own principal.
 abbrev pub own_principal : List ℕ
-own_principal = 0 ∷ 0 ∷ 0 ∷ 0 ∷ 0 ∷ 0 ∷ 0 ∷ 0 ∷ 1 ∷ 1 ∷ []
+own_principal = 0 ∷ 0 ∷ 0 ∷ 0 ∷ 0 ∷ 0 ∷ 0 ∷ 1 ∷ 1 ∷ 1 ∷ []
 
 -- The lines of the items that the host's run over the events gives.
 abbrev pub IsTranscript : List Module → ExecutionLimits → List Event → List ℕ → Type 0

@@ -1,9 +1,10 @@
 //! The lines of a transcript, put one by one.
-ghost use Rattle.std.specs.Prelude.{◌≡◌, ◌≤◌, ◌^◌, All, length, drop};
+ghost use Rattle.std.specs.Prelude.{◌≡◌, ◌≤◌, ◌^◌, All, codes, length, drop};
 ghost use Rattle.std.specs.List.{AllByRecursion};
 ghost use Rattle.outer.specs.Causes.{HasCause};
 ghost use Rattle.play_script.specs.Events.{IsFit, NamesModuleBelow, IsNoInstall, Suits};
 ghost use Rattle.play_script.specs.Items.{ItemText, ItemsText};
+ghost use Rattle.play_script.specs.Numbers.{bytes_text};
 ghost use Rattle.canister_host.specs.HostRun.{items_from};
 ghost use Rattle.canister.specs.Executed.{execution_limits};
 ghost use Rattle.canister.specs.Shown.{shown, limits_of_canister, IsCanisterOf};
@@ -18,7 +19,7 @@ use wasm_instance::Limits;
 use wasm_valid::Valid;
 
 /// The canister's own principal.
-const OWN_PRINCIPAL: [u8; 10] = [0, 0, 0, 0, 0, 0, 0, 0, 1, 1];
+const OWN_PRINCIPAL: [u8; 10] = [0, 0, 0, 0, 0, 0, 0, 1, 1, 1];
 
 // Puts the item's line, with its newline, by one put.
 fn put_item<O: Sink>(alloc: Global, item: &Item, out: &mut O) -> Result<(), OutsideFault>
@@ -77,7 +78,8 @@ fn play_events<O: Sink>(
 
 // The principal of the canister that is played.
 fn own_principal(alloc: Global) -> Principal
-    ensures { result ≡ own_principal }
+    ensures own { result ≡ own_principal }
+    ensures text { bytes_text result ≡ codes "00000000000000010101" }
 {
     match principal_of(alloc, &OWN_PRINCIPAL) {
         Some(principal) => principal,

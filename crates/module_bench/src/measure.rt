@@ -11,8 +11,9 @@ use std::rt::Clock;
 use std::time::{Duration, Instant};
 use std::{fs, io};
 use wasm_read::read;
-use wasm_tree::{Module, write};
+use wasm_tree::Module;
 use wasm_valid::validate;
+use wasm_write::write;
 
 // Measurements of each, of which the fastest counts.
 const TRIES: u32 = 5;

@@ -5,13 +5,16 @@ ghost use Rattle.outer.specs.declared.outside.OutsideFault.TheVariants.{Memory a
 
 use mo_num::{Bytes, Memory};
 use std::alloc::Global;
+use thiserror::Error;
 
 /// Why a call did not do its work.
-#[derive(Clone, Copy, Debug, PartialEq, Eq)]
+#[derive(Clone, Copy, Debug, PartialEq, Eq, Error)]
 pub enum OutsideFault {
     /// The outside refused, or broke off. Answered only where the object's count of faults rose in the call.
+    #[error("a read, a write or a put failed")]
     Failed,
     /// There was no memory, and nothing outside changed.
+    #[error("there was no memory")]
     Memory,
 }
 

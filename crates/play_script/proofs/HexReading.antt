@@ -1,64 +1,67 @@
--- Bytes are read pair by pair.
-use Rattle.std.proofs.Common.{◌≡◌, ℕ, suc, ◌+◌, ◌<◌, ◌≤◌, true, false, Bool, List, [], ◌∷◌, ◌++◌, length, drop, get_or, Option, Some, None, refl, sym, ap, ◌∙◌, arith, add-one, append_assoc, append-nil, cond}
-use Rattle.std.proofs.lemmas.List.{drop_all}
-use Rattle.std.proofs.Math.Seq.{drop-cons}
+-- Hexadecimal words are read as the library reads them.
+use Rattle.std.proofs.Common.{◌≡◌, ℕ, ◌+◌, ◌*◌, ◌%◌, List, [], ◌∷◌, length, inl, inr, Option, Some, None, ◌⊎◌, Result, Ok, Err, refl, sym, ap, ◌∙◌, arith}
+use Rattle.std.proofs.lemmas.Bool.{cases_lt}
+use Rattle.std.proofs.lemmas.Bool.Decides.{nat_tests}
+use Rattle.hex.specs.Hex.{decode_of, decode_pairs, digit_or_error, hex_digit_value, ◌>>=◌}
+use Rattle.hex.proofs.HexLemmas.{decode_of-even}
+use Rattle.hex.specs.declared.error.FromHexError.{FromHexError}
+use Rattle.hex.specs.declared.error.FromHexError.TheVariants.{OddLength}
 use Rattle.play_script.specs.Words.{digit_value, byte_of, before_all, hex_bytes}
 
--- these bytes, and then the others, if there are any to be had
-abbrev pub behind : List ℕ → Option (List ℕ) → Option (List ℕ)
-behind bytes None = None
-behind bytes (Some rest) = Some (bytes ++ rest)
+-- what was read, if anything was
+abbrev pub value_of : Result (List ℕ) FromHexError → Option (List ℕ)
+value_of (Ok bytes) = Some bytes
+value_of (Err e) = None
 
--- the pairs up to a place are read
-pub record ReadsPairs (word bytes : List ℕ) (at : ℕ) : Type 0 where
-  pub within : at ≤ length word
-  pub same : hex_bytes word ≡ behind bytes (hex_bytes (drop at word))
+same_digit : (c : ℕ) → hex_digit_value c ≡ digit_value c
+same_digit c = grind (arith, nat_tests)
 
-behind_none : (o : Option (List ℕ)) → o ≡ behind [] o
-behind_none None = refl
-behind_none (Some rest) = refl
+-- the byte of two digits before the others
+joined : (i high low : ℕ) (h l : Option ℕ) (r : Result (List ℕ) FromHexError)
+    → value_of ((digit_or_error high i h >>= (λ x. digit_or_error low (i + 1) l >>= (λ y. Ok (x * 16 + y)))) >>= (λ byte. r >>= (λ bytes. Ok (byte ∷ bytes))))
+    ≡ before_all (byte_of h l) (value_of r)
+joined i high low None l r = refl
+joined i high low (Some x) None r = refl
+joined i high low (Some x) (Some y) (Err e) = refl
+joined i high low (Some x) (Some y) (Ok bytes) = let e : x * 16 + y ≡ 16 * x + y = omega arith in ap (λ (v : ℕ). Some (v ∷ bytes)) e
 
-pub pairs_none : (word : List ℕ) → ReadsPairs word [] 0
-pairs_none word = record { within = omega arith; same = behind_none (hex_bytes word) }
+same_pairs : (i : ℕ) (text : List ℕ) → value_of (decode_pairs i text) ≡ hex_bytes text
+unfolding decode_pairs
+same_pairs i [] = refl
+same_pairs i (digit ∷ []) = refl
+same_pairs i (high ∷ low ∷ rest) =
+    joined i high low (hex_digit_value high) (hex_digit_value low) (decode_pairs (i + 2) rest)
+    ∙ ap (λ h. before_all (byte_of h (hex_digit_value low)) (value_of (decode_pairs (i + 2) rest))) (same_digit high)
+    ∙ ap (λ l. before_all (byte_of (digit_value high) l) (value_of (decode_pairs (i + 2) rest))) (same_digit low)
+    ∙ ap (λ r. before_all (byte_of (digit_value high) (digit_value low)) r) (same_pairs (i + 2) rest)
 
-pair_at : (word : List ℕ) (at : ℕ) → at + 1 < length word → drop at word ≡ get_or word at 0 ∷ get_or word (at + 1) 0 ∷ drop (at + 2) word
-pair_at word at below =
-    drop-cons word at 0 (omega arith) ∙ ap (λ n. get_or word at 0 ∷ drop n word) (sym (add-one at))
-    ∙ ap (λ (l : List ℕ). get_or word at 0 ∷ l) (drop-cons word (at + 1) 0 below)
-    ∙ (let two : suc (at + 1) ≡ at + 2 = omega arith in ap (λ n. get_or word at 0 ∷ get_or word (at + 1) 0 ∷ drop n word) two)
+nothing_behind : (byte : Option ℕ) → before_all byte None ≡ None
+nothing_behind None = refl
+nothing_behind (Some byte) = refl
 
-rest_of : (word : List ℕ) (at : ℕ) (byte : Option ℕ) → at + 1 < length word → byte ≡ byte_of (digit_value (get_or word at 0)) (digit_value (get_or word (at + 1) 0))
-    → hex_bytes (drop at word) ≡ before_all byte (hex_bytes (drop (at + 2) word))
-rest_of word at byte below is = ap (λ (l : List ℕ). hex_bytes l) (pair_at word at below) ∙ ap (λ b. before_all b (hex_bytes (drop (at + 2) word))) (sym is)
+odd_is_none : (text : List ℕ) → length text % 2 ≡ 1 → hex_bytes text ≡ None
+odd_is_none [] odd = absurd (omega arith)
+odd_is_none (digit ∷ []) odd = refl
+odd_is_none (high ∷ low ∷ rest) odd =
+    ap (before_all (byte_of (digit_value high) (digit_value low))) (odd_is_none rest (omega arith)) ∙ nothing_behind (byte_of (digit_value high) (digit_value low))
 
-behind_more : (bytes : List ℕ) (byte : ℕ) (o : Option (List ℕ)) → behind bytes (before_all (Some byte) o) ≡ behind (bytes ++ byte ∷ []) o
-behind_more bytes byte None = refl
-behind_more bytes byte (Some rest) = ap Some (sym (append_assoc bytes (byte ∷ []) rest))
+two_ways : (n : ℕ) → (n % 2 ≡ 1) ⊎ (n % 2 ≡ 0)
+two_ways n = elim (cases_lt (n % 2) 1) [
+  | inl below ↦ inr (omega arith)
+  | inr above ↦ inl (omega arith)
+]
 
-pub pairs_more : (word bytes more : List ℕ) (at byte : ℕ) → ReadsPairs word bytes at → at + 1 < length word
-    → Some byte ≡ byte_of (digit_value (get_or word at 0)) (digit_value (get_or word (at + 1) 0)) → more ≡ bytes ++ byte ∷ [] → ReadsPairs word more (at + 2)
-pairs_more word bytes more at byte reads below is grown = record {
-  within = omega arith;
-  same = reads.same ∙ ap (λ o. behind bytes o) (rest_of word at (Some byte) below is) ∙ behind_more bytes byte (hex_bytes (drop (at + 2) word))
-      ∙ ap (λ (l : List ℕ). behind l (hex_bytes (drop (at + 2) word))) (sym grown);
-}
+odd_is_refused : (text : List ℕ) → length text % 2 ≡ 1 → decode_of text ≡ Err OddLength
+odd_is_refused text odd = grind (arith)
 
-pub pairs_refused : (word bytes : List ℕ) (at : ℕ) → ReadsPairs word bytes at → at + 1 < length word
-    → None ≡ byte_of (digit_value (get_or word at 0)) (digit_value (get_or word (at + 1) 0)) → None ≡ hex_bytes word
-pairs_refused word bytes at reads below is = sym (reads.same ∙ ap (λ o. behind bytes o) (rest_of word at None below is))
+pub same_value : (text : List ℕ) → value_of (decode_of text) ≡ hex_bytes text
+same_value text = elim (two_ways (length text)) [
+  | inl odd ↦ ap value_of (odd_is_refused text odd) ∙ sym (odd_is_none text odd)
+  | inr even ↦ ap value_of (decode_of-even text even) ∙ same_pairs 0 text
+]
 
-pub pairs_all : (word bytes : List ℕ) (at : ℕ) → ReadsPairs word bytes at → length word ≤ at → Some bytes ≡ hex_bytes word
-pairs_all word bytes at reads all =
-    sym (reads.same ∙ ap (λ (l : List ℕ). behind bytes (hex_bytes l)) (drop_all at word all) ∙ ap Some (append-nil bytes))
+pub read_value : (text bytes : List ℕ) → decode_of text ≡ Ok bytes → Some bytes ≡ hex_bytes text
+read_value text bytes is = sym (ap value_of is) ∙ same_value text
 
-pub pairs_odd : (word bytes : List ℕ) (at : ℕ) → ReadsPairs word bytes at → at < length word → length word ≤ at + 1 → None ≡ hex_bytes word
-pairs_odd word bytes at reads below odd =
-    let last : drop at word ≡ get_or word at 0 ∷ [] =
-    drop-cons word at 0 below ∙ ap (λ (l : List ℕ). get_or word at 0 ∷ l) (drop_all (suc at) word (omega arith)) in
-    sym (reads.same ∙ ap (λ (l : List ℕ). behind bytes (hex_bytes l)) last)
-
--- the answer at the end
-pub pairs_whole : (word bytes : List ℕ) (at : ℕ) (is_whole : Bool) (result : Option (List ℕ)) → ReadsPairs word bytes at → length word ≤ at + 1
-    → (is_whole ≡ true → length word ≤ at) → (is_whole ≡ false → at < length word) → result ≡ cond is_whole (Some bytes) None → result ≡ hex_bytes word
-pairs_whole word bytes at true result reads odd all some is = is ∙ pairs_all word bytes at reads (all refl)
-pairs_whole word bytes at false result reads odd all some is = is ∙ pairs_odd word bytes at reads (some refl) odd
+pub read_nothing : (text : List ℕ) (e : FromHexError) → decode_of text ≡ Err e → None ≡ hex_bytes text
+read_nothing text e is = sym (ap value_of is) ∙ same_value text

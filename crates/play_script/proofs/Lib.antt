@@ -1,5 +1,5 @@
 pub mod Decimals
-pub mod Hex
+pub mod HexWriting
 pub mod Lines
 pub mod Splitting
 pub mod NumberReading

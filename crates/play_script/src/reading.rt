@@ -1,9 +1,10 @@
 //! What a word says: a number or bytes.
-ghost use Rattle.std.specs.Prelude.{◌≡◌, ◌↔◌, ◌+◌, ◌-◌, ◌*◌, ◌<◌, ◌≤◌, ◌^◌, ℕ, IsTrue, IfSome, IfNone, IfOk, Some, None, ◌∷◌, [], if◌then◌else◌};
+ghost use Rattle.std.specs.Prelude.{◌≡◌, ◌↔◌, ◌+◌, ◌-◌, ◌*◌, ◌<◌, ◌≤◌, ◌^◌, ℕ, IsTrue, IfSome, IfNone, IfOk, Some, None, ◌∷◌, []};
 ghost use Rattle.std.specs.Char.{IsAsciiDigit};
 ghost use Rattle.play_script.specs.Numbers.{IsDecimal, HasNoLeadingZero};
-ghost use Rattle.play_script.specs.Words.{IsNumber, digit_value, byte_of, hex_bytes, bytes_of};
+ghost use Rattle.play_script.specs.Words.{IsNumber, hex_bytes, bytes_of};
 
+use hex::FromHexError;
 use mo_num::{Bytes, Memory};
 use std::alloc::Global;
 
@@ -78,41 +79,11 @@ fn dash(alloc: Global, byte: u8) -> Option<Bytes>
 fn read_hex(alloc: Global, word: &[u8]) -> Result<Option<Bytes>, Memory>
     ensures { IfOk result (λ found. found ≡ hex_bytes word.now) }
 {
-    let mut bytes = Bytes::new(alloc);
-    let mut at = 0;
-    while at + 1 < word.len() {
-        match read_pair(word[at], word[at + 1]) {
-            Some(byte) => bytes.push(byte)?,
-            None => return Ok(None),
-        }
-        at += 2;
-    }
-    Ok(whole(bytes, at == word.len()))
-}
-
-// The bytes, where no digit is left.
-fn whole(bytes: Bytes, is_whole: bool) -> Option<Bytes>
-    ensures { result ≡ (if is_whole then Some bytes else None) }
-{
-    if is_whole { Some(bytes) } else { None }
-}
-
-fn read_pair(high: u8, low: u8) -> Option<u8>
-    ensures { result ≡ byte_of (digit_value high) (digit_value low) }
-{
-    let high = read_digit(high)?;
-    let low = read_digit(low)?;
-    Some(16 * high + low)
-}
-
-fn read_digit(digit: u8) -> Option<u8>
-    ensures value { result ≡ digit_value digit }
-    ensures small { IfSome result (λ n. n < 16) }
-{
-    match digit {
-        b'0'..=b'9' => Some(digit - 48),
-        b'A'..=b'F' => Some(digit - 55),
-        b'a'..=b'f' => Some(digit - 87),
-        _ => None,
+    match hex::decode(alloc, word) {
+        Ok(bytes) => Ok(Some(Bytes::from_vec(bytes))),
+        Err(error) => match error {
+            FromHexError::OutOfMemory => Err(Memory),
+            _ => Ok(None),
+        },
     }
 }

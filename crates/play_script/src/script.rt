@@ -9,24 +9,31 @@ use crate::Events;
 use crate::line::{LineFault, is_skipped, read_event};
 use crate::words::split_line;
 use std::alloc::Global;
+use thiserror::Error;
 
 /// The most bytes of a script: 64 MiB.
 const SCRIPT_LIMIT: usize = 67_108_864;
 
 /// Why a text is no script. Lines are counted from 1.
-#[derive(Clone, Copy, Debug, PartialEq, Eq)]
+#[derive(Clone, Copy, Debug, PartialEq, Eq, Error)]
 pub enum ScriptFault {
     /// A line of another form, or a second install.
+    #[error("line {0}: no event of a script, or a second installation")]
     BadLine(u32),
     /// The first event is no install, or there is no event, which is said of line 0.
+    #[error("line {0}: the first event has to be an installation")]
     NotInstalled(u32),
     /// The number of a module that is not there.
+    #[error("line {0}: there is no module of this number")]
     ModuleNumber(u32),
     /// Bytes of more than 2 MiB.
+    #[error("line {0}: a message of more than 2097152 bytes")]
     MessageTooLong(u32),
     /// More than 64 MiB.
+    #[error("the script has more than 67108864 bytes")]
     ScriptTooLong,
     /// Want of memory.
+    #[error("there is no memory")]
     Memory,
 }
 

@@ -13,13 +13,13 @@ pub fn item_text(alloc: Global, item: &Item) -> Result<Bytes, Memory>
     ensures { IfOk result (ItemText item.now) }
 {
     let mut line = Bytes::new(alloc);
-    put_item(item, &mut line)?;
+    put_item(alloc, item, &mut line)?;
     line.push(b'\n')?;
     Ok(line)
 }
 
 // Writes the line but for its newline. After an error some of it may stand.
-fn put_item(item: &Item, line: &mut Bytes) -> Result<(), Memory>
+fn put_item(alloc: Global, item: &Item, line: &mut Bytes) -> Result<(), Memory>
     requires { line.old ≡ [] }
     ensures { OnOk result (ItemText item.now (line.new ++ 10 ∷ [])) }
 {
@@ -29,7 +29,7 @@ fn put_item(item: &Item, line: &mut Bytes) -> Result<(), Memory>
         Item::Ignored => line.extend(b"ignored"),
         Item::Print(bytes) => {
             line.extend(b"print")?;
-            put_bytes_word(bytes.as_slice(), line)
+            put_bytes_word(alloc, bytes.as_slice(), line)
         }
         Item::Call {
             number,
@@ -39,29 +39,29 @@ fn put_item(item: &Item, line: &mut Bytes) -> Result<(), Memory>
         } => {
             line.extend(b"call")?;
             put_number_word(*number, line)?;
-            put_bytes_word(callee.bytes(), line)?;
+            put_bytes_word(alloc, callee.bytes(), line)?;
             put_word(method.as_slice(), line)?;
-            put_bytes_word(bytes.as_slice(), line)
+            put_bytes_word(alloc, bytes.as_slice(), line)
         }
         Item::Replied { number, bytes } => {
             line.extend(b"replied")?;
             put_number_word(*number, line)?;
-            put_bytes_word(bytes.as_slice(), line)
+            put_bytes_word(alloc, bytes.as_slice(), line)
         }
         Item::Rejected { number, code, text } => {
             line.extend(b"rejected")?;
             put_number_word(*number, line)?;
             put_number_word(*code as u64, line)?;
-            put_bytes_word(text.as_slice(), line)
+            put_bytes_word(alloc, text.as_slice(), line)
         }
         Item::Trapped(word) => {
             line.extend(b"trapped")?;
-            put_trap(word, line)
+            put_trap(alloc, word, line)
         }
     }
 }
 
-fn put_trap(word: &Word, line: &mut Bytes) -> Result<(), Memory>
+fn put_trap(alloc: Global, word: &Word, line: &mut Bytes) -> Result<(), Memory>
     ensures { OnOk result (line.new ++ 10 ∷ [] ≡ line.old ++ line_end (trap_words word.now)) }
 {
     match word {
@@ -75,7 +75,7 @@ fn put_trap(word: &Word, line: &mut Bytes) -> Result<(), Memory>
         Word::Indirect => put_word(b"indirect", line),
         Word::Text(text) => {
             put_word(b"text", line)?;
-            put_bytes_word(text.as_slice(), line)
+            put_bytes_word(alloc, text.as_slice(), line)
         }
     }
 }
@@ -88,11 +88,11 @@ fn put_word(word: &[u8], line: &mut Bytes) -> Result<(), Memory>
     line.extend(word)
 }
 
-fn put_bytes_word(bytes: &[u8], line: &mut Bytes) -> Result<(), Memory>
+fn put_bytes_word(alloc: Global, bytes: &[u8], line: &mut Bytes) -> Result<(), Memory>
     ensures { OnOk result (line.new ≡ line.old ++ 32 ∷ bytes_text bytes.now) }
 {
     line.push(b' ')?;
-    put_bytes(bytes, line)
+    put_bytes(alloc, bytes, line)
 }
 
 fn put_number_word(value: u64, line: &mut Bytes) -> Result<(), Memory>

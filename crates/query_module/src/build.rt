@@ -8,7 +8,8 @@ use crate::reply::{joined, replies};
 use mo_num::{Bytes, Memory, Sequence};
 use query_source::Method;
 use std::alloc::Global;
-use wasm_tree::{Module, write};
+use wasm_tree::Module;
+use wasm_write::write;
 
 fn query_module(alloc: Global, methods: &[Method]) -> Result<Module, Memory>
     requires { AreQueries methods.now }

@@ -3,6 +3,7 @@ ghost use Rattle.std.specs.Prelude.{◌≡◌};
 ghost use Rattle.query_source.specs.declared.query.SourceFault.TheVariants.{Memory as NoMemory};
 
 use mo_num::{Bytes, Memory, Sequence};
+use thiserror::Error;
 
 /// A query method that takes nothing and answers a constant natural number.
 /// Motoko language manual, sections Declaration syntax and Declaration fields.
@@ -18,11 +19,13 @@ pub struct Method {
 pub type Methods = Sequence<Method>;
 
 /// Why a source gives no methods.
-#[derive(Clone, Copy, Debug, PartialEq, Eq)]
+#[derive(Clone, Copy, Debug, PartialEq, Eq, Error)]
 pub enum SourceFault {
     /// The source is not of the form that is compiled yet.
+    #[error("the source is not of the form that is compiled yet")]
     NotYet,
     /// There was no memory for the methods.
+    #[error("there was no memory")]
     Memory,
 }
 

@@ -1,14 +1,7 @@
-//! Tests of the graph of types and of subtyping.
+//! The definitions of types, computed on small examples.
 #![tactic(auto)]
 
 mod definitions;
-#[cfg(test)]
-mod graphs;
-#[cfg(test)]
-mod subtyping;
-pub mod tables;
-#[cfg(test)]
-mod wide;
 
 pub use definitions::{
     calls_count_while_they_are_open, calls_have_owners, candid_types_of_types,

@@ -2,11 +2,15 @@
 ghost use Rattle.std.specs.Prelude.{◌≡◌};
 ghost use Rattle.wasm_layout.specs.declared.fault.LayoutFault.TheVariants.{Memory};
 
+use thiserror::Error;
+
 /// Why there is no layout.
-#[derive(Clone, Copy, Debug, PartialEq, Eq)]
+#[derive(Clone, Copy, Debug, PartialEq, Eq, Error)]
 pub enum LayoutFault {
     /// A place, or the number of a function's locals, might not fit 32 bits.
+    #[error("the code, or the locals of a function, may be more than 32 bits count")]
     TooLarge,
+    #[error("there was no memory")]
     Memory,
 }
 

@@ -7,6 +7,7 @@ use crate::constant::constant;
 use crate::segments::{put_elements, put_segments};
 use page_store::KeptPages;
 use std::alloc::{AllocError, Global};
+use thiserror::Error;
 use wasm_tree::{Global as GlobalPart, Limits, Module};
 
 /// The most globals of a module.
@@ -16,11 +17,13 @@ pub const MOST_GLOBALS: usize = 10_000;
 pub const MOST_ENTRIES: usize = 100_000;
 
 /// Why a module is not loaded.
-#[derive(Clone, Copy, Debug, PartialEq, Eq)]
+#[derive(Clone, Copy, Debug, PartialEq, Eq, Error)]
 pub enum LoadTrap {
     /// The first memory is above the limit of pages.
+    #[error("the first memory is above the limit of pages")]
     Heap,
     /// A segment does not fit into the memory or the table.
+    #[error("a segment does not fit into the memory or the table")]
     Bounds,
 }
 

@@ -1,19 +1,13 @@
-//! WebAssembly modules as trees: their parts, their bytes, their rules and their meaning.
+//! WebAssembly modules as trees: their parts, and what their bytes, their rules and their meaning are.
 //!
 //! Within the profile of the project: WebAssembly Core 1.0 without floats.
 #![tactic(auto)]
 
-mod code_spelled;
 mod module_parts;
 mod op;
-mod op_spelled;
-mod opcodes;
-mod parts_spelled;
 mod rule;
-mod spell;
 mod trap;
 mod types;
-mod writer;
 
 pub use module_parts::{
     DataSegment, ElementSegment, Export, ExportKind, Function, Global, Import, ImportKind, Locals,
@@ -26,4 +20,3 @@ pub use op::{
 pub use rule::Rule;
 pub use trap::Trap;
 pub use types::{FunctionType, GlobalType, Limits, ValueType};
-pub use writer::write;

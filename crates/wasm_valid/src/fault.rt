@@ -2,14 +2,17 @@
 ghost use Rattle.std.specs.Prelude.{◌≡◌};
 ghost use Rattle.wasm_valid.specs.declared.fault.Fault.TheVariants.{Memory};
 
+use thiserror::Error;
 use wasm_tree::Rule;
 
 /// Why a module could not be validated.
-#[derive(Clone, Copy, Debug, PartialEq, Eq)]
+#[derive(Clone, Copy, Debug, PartialEq, Eq, Error)]
 pub enum ValidFault {
     /// The rule is broken: in the function with this index, imported ones counted, or outside the functions.
+    #[error("a rule of validation is broken: {rule:?}, in function {function:?}")]
     Broken { function: Option<u32>, rule: Rule },
     /// There was no memory for the validation.
+    #[error("there was no memory")]
     Memory,
 }
 

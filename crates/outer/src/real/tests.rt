@@ -1,51 +1,8 @@
-use super::{RealFiles, RealSink};
-use crate::{Content, Files, OutsideFault, Sink};
+use super::RealSink;
+use crate::{OutsideFault, Sink};
+use std::io;
 use std::io::{Error, ErrorKind, Write};
 use std::test::Fail;
-use std::{fs, io};
-
-const FOLDER: &str = "outer_real_test";
-
-const NAME: &str = "outer_real_test/a";
-
-const ABSENT: &str = "outer_real_test/absent";
-
-const NO_FOLDER: &str = "outer_real_test/absent/a";
-
-#[test]
-fn reads_and_writes_a_file(rt: HostRuntime) -> Result<(), Fail> {
-    let alloc = rt.alloc();
-    let _ = fs::remove_dir_all(&rt, FOLDER);
-    fs::create_dir(&rt, FOLDER)?;
-    let mut files = RealFiles::new(&rt);
-
-    assert_eq!(rt; files.write(NAME, b"longer"), Ok(()));
-    assert_eq!(rt; files.write(NAME, b"abc"), Ok(()));
-    for limit in [3, 4, u64::MAX] {
-        match files.read(alloc, NAME, limit) {
-            Ok(Content::Whole(bytes)) => {
-                assert_eq!(rt; bytes.as_slice(), b"abc".as_slice(), "within {limit}")
-            }
-            _ => panic!(rt; "within {limit}"),
-        }
-    }
-    for limit in [0, 2] {
-        assert!(rt;
-            matches!(files.read(alloc, NAME, limit), Ok(Content::TooLong)),
-            "within {limit}"
-        );
-    }
-    assert!(rt; matches!(files.read(alloc, ABSENT, 9), Ok(Content::Missing)));
-    assert_eq!(rt; (files.read_faults, files.write_faults), (0, 0));
-
-    assert!(rt; matches!(files.read(alloc, FOLDER, 9), Err(OutsideFault::Failed)));
-    assert_eq!(rt; files.write(FOLDER, b"abc"), Err(OutsideFault::Failed));
-    assert_eq!(rt; files.write(NO_FOLDER, b"abc"), Err(OutsideFault::Failed));
-    assert_eq!(rt; (files.read_faults, files.write_faults), (1, 2));
-
-    fs::remove_dir_all(&rt, FOLDER)?;
-    Ok(())
-}
 
 // What a writer does once it has no room.
 #[derive(Clone, Copy, Debug)]

@@ -27,4 +27,4 @@ play_events-requires-clause-first g c = recursion_from_All _ _ c.requires.suits.
 pub returns-clause-put : goal.returns-clause-put
 returns-clause-put g c =
     subst (λ items. IsPut (ItemsText items) (g.O.Sink.shown c.args.out.now) (g.O.Sink.shown c.play_events.new.out) c.play_events.result)
-    (items_with _ _ _ _ _ c.args.events.now _ (ap execution_limits c.in-Ok.ensures.limits) (c.in-Ok.ensures.own ∙ c.own_principal.ensures) (c.in-Ok.ensures.first c.args.modules.now)) c.play_events.ensures.put
+    (items_with _ _ _ _ _ c.args.events.now _ (ap execution_limits c.in-Ok.ensures.limits) (c.in-Ok.ensures.own ∙ c.own_principal.ensures.own) (c.in-Ok.ensures.first c.args.modules.now)) c.play_events.ensures.put

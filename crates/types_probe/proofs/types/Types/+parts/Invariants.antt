@@ -1,0 +1,8 @@
+use Rattle.std.proofs.Common.{◌+◌, ◌*◌}
+use Rattle.types_probe.proofs.types.Types.+parts.Given as goal
+
+abbrev pub decreases-add : goal.decreases-add
+decreases-add l = 2 * l.levels
+
+abbrev pub decreases-add_parts : goal.decreases-add_parts
+decreases-add_parts l = 2 * l.levels + 1

@@ -1,5 +1,0 @@
-use Rattle.wasm_tree.proofs.Least.{then_appends}
-use Rattle.wasm_tree.proofs.code_spelled.LimitsSpellTable.put.Goals as goal
-
-pub returns : goal.returns
-returns c = then_appends _ _ _ _ _ c.in_ok-put_exactly.ensures c.in_ok-put_limits.ensures

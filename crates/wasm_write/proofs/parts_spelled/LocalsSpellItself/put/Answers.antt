@@ -1,0 +1,5 @@
+use Rattle.wasm_write.proofs.Least.{then_appends}
+use Rattle.wasm_write.proofs.parts_spelled.LocalsSpellItself.put.Goals as goal
+
+pub returns : goal.returns
+returns c = then_appends _ _ _ _ _ c.in_ok-put_u32.ensures c.in_ok-put.ensures

@@ -1,0 +1,13 @@
+use Rattle.std.proofs.lemmas.Result.{on_ok_weaker}
+use Rattle.std.proofs.lemmas.Int.{to_z-of_z}
+use Rattle.std.proofs.Common.{arith, rules}
+use mir.Syntax.{w64, w128}
+use mir.Val.{SFits}
+use Rattle.wasm_write.proofs.Least.{s64_appends}
+use Rattle.wasm_write.proofs.spell.put_s64.Goals as goal
+
+pub returns : goal.returns
+returns c =
+    let fits : SFits w64 c.args.number.now = search rules in
+    let wide : SFits w128 c.args.number.now = record { sfits = omega (arith, fits.sfits) } in
+    on_ok_weaker c.sleb_write.result (s64_appends _ _ _ fits) (simp to_z-of_z at c.sleb_write.ensures.ok)
