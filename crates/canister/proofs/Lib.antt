@@ -1,10 +1,2 @@
-pub mod Entering
-pub mod Limits
-pub mod Told
-pub mod Numbering
-pub mod Finishing
-pub mod Going
-pub mod Ending
-pub mod Answering
 pub mod Beginning
 pub mod Showing

@@ -1,4 +1,4 @@
-pub mod Awaiting
-pub mod Calling
-pub mod Executed
+pub mod Left
 pub mod Shown
+pub mod Views
+pub use Rattle.canister_execution.specs.Executed

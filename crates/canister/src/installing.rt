@@ -1,25 +1,26 @@
 //! Installations and upgrades.
-ghost use Rattle.std.specs.Prelude.{◌≡◌, ◌≤◌, ◌+◌, ◌++◌, ◌∷◌, ◌⊎◌, [], None, Some, List, slice_get, codes, length, IfOk, IfSome, OnOk, OnErr};
+ghost use Rattle.std.specs.Prelude.{◌≡◌, ◌++◌, ◌∷◌, ◌⊎◌, [], Some, List, false, slice_get, codes, IfOk, IfSome, OnOk, OnErr};
 ghost use Rattle.play_script.specs.declared.item.Item.TheVariants as item;
 ghost use Rattle.ic0_world.specs.declared.kind.ExecutionKind.TheVariants as execution;
 ghost use Rattle.wasm_tree.specs.declared.module_parts.Module.{Module};
+ghost use Rattle.wasm_tree.specs.Load.{Loaded, load};
 ghost use Rattle.wasm_machine.specs.Ran.{IsCallable};
-ghost use Rattle.wasm_instance.specs.Views.{standing};
 ghost use Rattle.wasm_instance.specs.Fits.{IsInstanceOf};
 ghost use Rattle.canister_host.specs.HostRun.{begin, entry_of, install, outcome, upgrade};
-ghost use Rattle.canister.specs.Executed.{entries_of, CanEnter};
-ghost use Rattle.canister.specs.Shown.{IsBegun, shown, canister_at, limits_of_canister, AreWhole, CanRun, KeepsCalls, IsUnchanged, IsPlaced};
-ghost use Rattle.wasm_tree.specs.Load.{Loaded, load};
+ghost use Rattle.canister_execution.specs.Executed.{entries_of, CanEnter};
+ghost use Rattle.canister_execution.specs.Views.{IsSettled};
+ghost use Rattle.canister_messages.specs.States.{canister_at, limits_of, CanRun};
+ghost use Rattle.canister.specs.Left.{no_message, start_left, preparation_left};
+ghost use Rattle.canister.specs.Shown.{shown_state, IsBegun, IsPlaced, IsUnchanged, KeepsCalls};
 
-use crate::canister::Canister;
-use crate::execution::{Ended, Entry};
-use crate::items::push_prints;
-use crate::messages::quiet;
-use ic0_world::{ExecutionKind, World};
-use mo_num::{Memory, Sequence};
+use canister_calls::{nobody, push_prints};
+use canister_execution::{Effects, Entry, Message};
+use canister_messages::State;
+use ic0_world::ExecutionKind;
+use mo_num::{Bytes, Memory, Sequence};
 use module_entries::{exported, start_function};
-use page_store::Pages;
 use play_script::{Item, Items, Word};
+use std::alloc::Global;
 use wasm_store::LoadTrap;
 use wasm_valid::Valid;
 
@@ -38,173 +39,195 @@ fn entry_at(kind: ExecutionKind, found: Option<u32>) -> Option<Entry>
     }
 }
 
-impl Canister {
-    /// The first installation.
-    pub(crate) fn install(&mut self, tree: &Valid, number: u32) -> Result<Items, Memory>
-        requires whole { AreWhole self.old.memories }
-        requires limits { self.old.memories.instance.limits ≡ self.old.limits }
-        requires empty { self.old.memories.kept.bytes ≡ [] }
-        ensures ok { (modules : List Module) → slice_get modules number ≡ Some tree.now → IfOk result (λ items. install (limits_of_canister self.old) self.old.own (Some tree.now) (shown modules self.old) ≡ outcome items (shown modules self.new)) }
-        ensures err { OnErr result (IsUnchanged self.old self.new) }
-        ensures comes { OnOk result (IsUnchanged self.old self.new ⊎ IsBegun tree.now number self.new) }
-        ensures keeps { KeepsCalls self.old self.new }
-    {
-        let stable = self.memories.take(self.alloc)?;
-        let items = Sequence::new(self.alloc);
-        let kind = ExecutionKind::Init;
-        self.begin(
-            tree,
-            number,
-            kind,
-            b"canister_init",
-            Item::Installed,
-            stable,
-            items,
-        )
+// What an execution is told that nobody called.
+fn no_message(alloc: Global) -> Message
+    ensures { result ≡ no_message }
+{
+    Message {
+        caller: nobody(alloc),
+        argument: Bytes::new(alloc),
+        reject_code: 0,
+        reject_text: Bytes::new(alloc),
+        answered: false,
+        open_before: 0,
     }
+}
 
-    /// The old module prepares, and the new one takes its place on the stable memory that it leaves.
-    pub(crate) fn upgrade(
-        &mut self,
-        old: &Valid,
-        tree: &Valid,
-        number: u32,
-    ) -> Result<Items, Memory>
-        requires runs { CanRun old.now self.old }
-        ensures ok { (modules : List Module) → slice_get modules number ≡ Some tree.now → IfOk result (λ items. upgrade (limits_of_canister self.old) self.old.own (Some tree.now) (Some (canister_at old.now self.old.memories)) (shown modules self.old) ≡ outcome items (shown modules self.new)) }
-        ensures err { OnErr result (IsUnchanged self.old self.new) }
-        ensures comes { OnOk result (IsUnchanged self.old self.new ⊎ IsBegun tree.now number self.new) }
-        ensures keeps { KeepsCalls self.old self.new }
+/// The first installation.
+pub fn install(state: &mut State, tree: &Valid, number: u32) -> Result<Items, Memory>
+    requires settled { IsSettled state.old.memories }
+    requires empty { state.old.memories.kept.stable ≡ [] }
+    ensures ok { (modules : List Module) → slice_get modules number ≡ Some tree.now → IfOk result (λ items. install (limits_of state.old) state.old.own (Some tree.now) (shown_state modules state.old) ≡ outcome items (shown_state modules state.new)) }
+    ensures err { OnErr result (IsUnchanged state.old state.new) }
+    ensures comes { OnOk result (IsUnchanged state.old state.new ⊎ IsBegun tree.now number state.new) }
+    ensures settled { OnOk result (IsSettled state.new.memories) }
+    ensures keeps { KeepsCalls state.old state.new }
+{
+    state.memories.prepare(state.alloc)?;
+    let items = Sequence::new(state.alloc);
+    let kind = ExecutionKind::Init;
+    let name = b"canister_init";
+    begin(state, tree, number, kind, name, Item::Installed, items)
+}
+
+/// The old module prepares, and the new one takes its place on the stable memory that it leaves.
+pub fn upgrade(state: &mut State, old: &Valid, tree: &Valid, number: u32) -> Result<Items, Memory>
+    requires runs { CanRun old.now state.old }
+    ensures ok { (modules : List Module) → slice_get modules number ≡ Some tree.now → IfOk result (λ items. upgrade (limits_of state.old) state.old.own (Some tree.now) (Some (canister_at old.now state.old.memories.kept)) (shown_state modules state.old) ≡ outcome items (shown_state modules state.new)) }
+    ensures err { OnErr result (IsUnchanged state.old state.new) }
+    ensures comes { OnOk result (IsUnchanged state.old state.new ⊎ IsBegun tree.now number state.new) }
+    ensures settled { OnOk result (IsSettled state.new.memories) }
+    ensures keeps { KeepsCalls state.old state.new }
+{
+    let entry = entry_at(
+        ExecutionKind::PreUpgrade,
+        exported(old, b"canister_pre_upgrade"),
+    );
+    let message = no_message(state.alloc);
+    match state
+        .memories
+        .enter(state.alloc, &state.own, old, entry, message)
     {
-        let stable = self.memories.take(self.alloc)?;
-        let world = quiet(self.alloc, &self.own, stable);
-        let found = exported(old, b"canister_pre_upgrade");
-        let entry = entry_at(ExecutionKind::PreUpgrade, found);
-        let Ended { world, trap } = self.memories.execute(self.alloc, old, None, entry, world)?;
-        let World { prints, stable, .. } = world;
-        let mut items = Sequence::new(self.alloc);
-        push_prints(prints, &mut items)?;
-        match trap {
-            None => self.begin_upgraded(tree, number, stable, items),
-            Some(word) => self.give_up(word, stable, items),
+        Ok(effects) => end_preparation(state, tree, number, effects),
+        Err(Memory) => Err(Memory),
+    }
+}
+
+// What the preparation of an upgrade leaves.
+fn end_preparation(
+    state: &mut State,
+    tree: &Valid,
+    number: u32,
+    effects: Effects,
+) -> Result<Items, Memory>
+    requires there { state.old.memories.is_lost ≡ false }
+    ensures ok { (modules : List Module) → slice_get modules number ≡ Some tree.now → IfOk result (λ done. preparation_left (limits_of state.old) state.old.own tree.now state.old.memories.standing.stable effects (shown_state modules state.old) effects.trap ≡ outcome done (shown_state modules state.new)) }
+    ensures err { OnErr result (IsUnchanged state.old state.new) }
+    ensures comes { OnOk result (IsUnchanged state.old state.new ⊎ IsBegun tree.now number state.new) }
+    ensures settled { OnOk result (IsSettled state.new.memories) }
+    ensures keeps { KeepsCalls state.old state.new }
+{
+    let Effects { prints, trap, .. } = effects;
+    let mut items = Sequence::new(state.alloc);
+    match push_prints(prints, &mut items) {
+        Ok(()) => {}
+        Err(Memory) => return Err(Memory),
+    }
+    match trap {
+        None => {
+            let kind = ExecutionKind::PostUpgrade;
+            let name = b"canister_post_upgrade";
+            begin(state, tree, number, kind, name, Item::Upgraded, items)
         }
+        Some(word) => give_up(state, word, items),
     }
+}
 
-    fn begin_upgraded(
-        &mut self,
-        tree: &Valid,
-        number: u32,
-        stable: Pages,
-        items: Items,
-    ) -> Result<Items, Memory>
-        requires whole { AreWhole self.old.memories }
-        requires taken { self.old.memories.stable ≡ None }
-        requires limit { stable.limit ≡ self.old.memories.kept.limit }
-        requires limits { self.old.memories.instance.limits ≡ self.old.limits }
-        ensures ok { (modules : List Module) → slice_get modules number ≡ Some tree.now → IfOk result (λ done. begin (limits_of_canister self.old) self.old.own tree.now execution.PostUpgrade (codes "canister_post_upgrade") item.Upgraded stable.bytes items (shown modules self.old) ≡ outcome done (shown modules self.new)) }
-        ensures err { OnErr result (IsUnchanged self.old self.new) }
-        ensures comes { OnOk result (IsUnchanged self.old self.new ⊎ IsBegun tree.now number self.new) }
-        ensures keeps { KeepsCalls self.old self.new }
-    {
-        let kind = ExecutionKind::PostUpgrade;
-        let name = b"canister_post_upgrade";
-        self.begin(tree, number, kind, name, Item::Upgraded, stable, items)
+// Begins a module on the stable memory that stands, behind these items, with `last` as its last one. Where it breaks off,
+// what is kept is put back.
+fn begin(
+    state: &mut State,
+    tree: &Valid,
+    number: u32,
+    kind: ExecutionKind,
+    name: &[u8],
+    last: Item,
+    items: Items,
+) -> Result<Items, Memory>
+    requires there { state.old.memories.is_lost ≡ false }
+    ensures ok { (modules : List Module) → slice_get modules number ≡ Some tree.now → IfOk result (λ done. begin (limits_of state.old) state.old.own tree.now kind name.now last state.old.memories.standing.stable items (shown_state modules state.old) ≡ outcome done (shown_state modules state.new)) }
+    ensures err { OnErr result (IsUnchanged state.old state.new) }
+    ensures comes { OnOk result (IsUnchanged state.old state.new ⊎ IsBegun tree.now number state.new) }
+    ensures settled { OnOk result (IsSettled state.new.memories) }
+    ensures keeps { KeepsCalls state.old state.new }
+{
+    match state.memories.load(tree) {
+        Ok(()) => start(state, tree, number, kind, name, last, items),
+        Err(LoadTrap::Heap) => give_up(state, Word::Heap, items),
+        Err(LoadTrap::Bounds) => give_up(state, Word::Bounds, items),
     }
+}
 
-    // Begins a module on this stable memory, behind these items, with `last` as its last one. Where it breaks off, what is
-    // kept is put back.
-    fn begin(
-        &mut self,
-        tree: &Valid,
-        number: u32,
-        kind: ExecutionKind,
-        name: &[u8],
-        last: Item,
-        stable: Pages,
-        items: Items,
-    ) -> Result<Items, Memory>
-        requires whole { AreWhole self.old.memories }
-        requires taken { self.old.memories.stable ≡ None }
-        requires limit { stable.limit ≡ self.old.memories.kept.limit }
-        requires limits { self.old.memories.instance.limits ≡ self.old.limits }
-        ensures ok { (modules : List Module) → slice_get modules number ≡ Some tree.now → IfOk result (λ done. begin (limits_of_canister self.old) self.old.own tree.now kind name.now last stable.bytes items (shown modules self.old) ≡ outcome done (shown modules self.new)) }
-        ensures err { OnErr result (IsUnchanged self.old self.new) }
-        ensures comes { OnOk result (IsUnchanged self.old self.new ⊎ IsBegun tree.now number self.new) }
-        ensures keeps { KeepsCalls self.old self.new }
+// Runs the start function of the loaded module, and then what it exports under the name.
+fn start(
+    state: &mut State,
+    tree: &Valid,
+    number: u32,
+    kind: ExecutionKind,
+    name: &[u8],
+    last: Item,
+    items: Items,
+) -> Result<Items, Memory>
+    requires there { state.old.memories.is_lost ≡ false }
+    requires fits { IsInstanceOf tree.now state.old.memories.standing.instance }
+    ensures ok { (modules : List Module) → slice_get modules number ≡ Some tree.now → load (limits_of state.old) tree.now ≡ Loaded state.old.memories.standing.instance → IfOk result (λ done. begin (limits_of state.old) state.old.own tree.now kind name.now last state.old.memories.standing.stable items (shown_state modules state.old) ≡ outcome done (shown_state modules state.new)) }
+    ensures err { OnErr result (IsUnchanged state.old state.new) }
+    ensures comes { OnOk result (IsUnchanged state.old state.new ⊎ IsBegun tree.now number state.new) }
+    ensures settled { OnOk result (IsSettled state.new.memories) }
+    ensures keeps { KeepsCalls state.old state.new }
+{
+    let start = entry_at(ExecutionKind::Start, start_function(tree));
+    let entry = entry_at(kind, exported(tree, name));
+    let message = no_message(state.alloc);
+    match state
+        .memories
+        .execute(state.alloc, &state.own, tree, start, entry, message)
     {
-        match self.memories.load(tree) {
-            Ok(()) => self.start(tree, number, kind, name, last, stable, items),
-            Err(LoadTrap::Heap) => self.give_up(Word::Heap, stable, items),
-            Err(LoadTrap::Bounds) => self.give_up(Word::Bounds, stable, items),
-        }
+        Ok(effects) => end_start(state, number, last, effects, items),
+        Err(Memory) => Err(Memory),
     }
+}
 
-    // Runs the start function of the loaded module, and then what it exports under the name.
-    fn start(
-        &mut self,
-        tree: &Valid,
-        number: u32,
-        kind: ExecutionKind,
-        name: &[u8],
-        last: Item,
-        stable: Pages,
-        mut items: Items,
-    ) -> Result<Items, Memory>
-        requires whole { AreWhole self.old.memories }
-        requires taken { self.old.memories.stable ≡ None }
-        requires limit { stable.limit ≡ self.old.memories.kept.limit }
-        requires limits { self.old.memories.instance.limits ≡ self.old.limits }
-        requires fits { IsInstanceOf tree.now (standing self.old.memories.instance) }
-        ensures ok { (modules : List Module) → slice_get modules number ≡ Some tree.now → load (limits_of_canister self.old) tree.now ≡ Loaded (standing self.old.memories.instance) → IfOk result (λ done. begin (limits_of_canister self.old) self.old.own tree.now kind name.now last stable.bytes items (shown modules self.old) ≡ outcome done (shown modules self.new)) }
-        ensures err { OnErr result (IsUnchanged self.old self.new) }
-        ensures comes { OnOk result (IsUnchanged self.old self.new ⊎ IsBegun tree.now number self.new) }
-        ensures keeps { KeepsCalls self.old self.new }
-    {
-        let world = quiet(self.alloc, &self.own, stable);
-        let start = entry_at(ExecutionKind::Start, start_function(tree));
-        let entry = entry_at(kind, exported(tree, name));
-        let Ended { world, trap } = self
-            .memories
-            .execute(self.alloc, tree, start, entry, world)?;
-        let World { prints, stable, .. } = world;
-        push_prints(prints, &mut items)?;
-        match trap {
-            None => self.take_place(number, last, stable, items),
-            Some(word) => self.give_up(word, stable, items),
-        }
+// What the executions of a module that is begun leave, behind these items.
+fn end_start(
+    state: &mut State,
+    number: u32,
+    last: Item,
+    effects: Effects,
+    mut items: Items,
+) -> Result<Items, Memory>
+    requires there { state.old.memories.is_lost ≡ false }
+    ensures ok { (m : Module) (modules : List Module) → slice_get modules number ≡ Some m → IfOk result (λ done. start_left items last (canister_at m state.old.memories.standing) effects (shown_state modules state.old) effects.trap ≡ outcome done (shown_state modules state.new)) }
+    ensures err { OnErr result (IsUnchanged state.old state.new) }
+    ensures comes { (m : Module) → IsInstanceOf m state.old.memories.standing.instance → OnOk result (IsUnchanged state.old state.new ⊎ IsBegun m number state.new) }
+    ensures settled { OnOk result (IsSettled state.new.memories) }
+    ensures keeps { KeepsCalls state.old state.new }
+{
+    let Effects { prints, trap, .. } = effects;
+    match push_prints(prints, &mut items) {
+        Ok(()) => {}
+        Err(Memory) => return Err(Memory),
     }
+    match trap {
+        None => take_place(state, number, last, items),
+        Some(word) => give_up(state, word, items),
+    }
+}
 
-    // The module that stands is the canister's from now on.
-    fn take_place(
-        &mut self,
-        number: u32,
-        last: Item,
-        stable: Pages,
-        mut items: Items,
-    ) -> Result<Items, Memory>
-        requires whole { AreWhole self.old.memories }
-        requires limit { stable.limit ≡ self.old.memories.kept.limit }
-        ensures ok { IfOk result (λ done. done ≡ items ++ last ∷ []) }
-        ensures placed { OnOk result (IsPlaced number stable self.old self.new) }
-        ensures err { OnErr result (IsUnchanged self.old self.new) }
-        ensures keeps { KeepsCalls self.old self.new }
-    {
-        items.push(last)?;
-        self.memories.commit(stable);
-        self.installed = Some(number);
-        Ok(items)
-    }
+// The module that stands is the canister's from now on.
+fn take_place(state: &mut State, number: u32, last: Item, mut items: Items) -> Result<Items, Memory>
+    requires there { state.old.memories.is_lost ≡ false }
+    ensures ok { IfOk result (λ done. done ≡ items ++ last ∷ []) }
+    ensures placed { OnOk result (IsPlaced number state.old state.new) }
+    ensures err { OnErr result (IsUnchanged state.old state.new) }
+    ensures settled { OnOk result (IsSettled state.new.memories) }
+    ensures keeps { KeepsCalls state.old state.new }
+{
+    items.push(last)?;
+    state.memories.commit();
+    state.installed = Some(number);
+    Ok(items)
+}
 
-    // Nothing has changed but the items.
-    fn give_up(&mut self, word: Word, stable: Pages, mut items: Items) -> Result<Items, Memory>
-        requires whole { AreWhole self.old.memories }
-        requires limit { stable.limit ≡ self.old.memories.kept.limit }
-        ensures ok { IfOk result (λ done. done ≡ items ++ item.Trapped word ∷ []) }
-        ensures unchanged { IsUnchanged self.old self.new }
-        ensures keeps { KeepsCalls self.old self.new }
-    {
-        items.push(Item::Trapped(word))?;
-        self.memories.restore(stable);
-        Ok(items)
-    }
+// Nothing has changed but the items.
+fn give_up(state: &mut State, word: Word, mut items: Items) -> Result<Items, Memory>
+    requires there { state.old.memories.is_lost ≡ false }
+    ensures ok { IfOk result (λ done. done ≡ items ++ item.Trapped word ∷ []) }
+    ensures unchanged { IsUnchanged state.old state.new }
+    ensures settled { OnOk result (IsSettled state.new.memories) }
+    ensures keeps { KeepsCalls state.old state.new }
+{
+    items.push(Item::Trapped(word))?;
+    state.memories.restore();
+    Ok(items)
 }

@@ -7,7 +7,6 @@ use Rattle.wasm_machine.specs.Ran.{execute_with, limits_of, store_with, HasRun}
 use Rattle.wasm_instance.specs.declared.instance.Instance.{Instance}
 use Rattle.wasm_instance.specs.declared.instance.Outcome.{Outcome}
 use Rattle.wasm_instance.specs.Fits.{ended}
-use Rattle.wasm_instance.specs.Views.{standing, kept}
 use Rattle.ic0_world.specs.declared.function.Ic0.{Ic0}
 use Rattle.ic0_world.specs.declared.kind.ExecutionKind.TheVariants.{Update}
 use Rattle.ic0_world.specs.declared.world.World.{World}
@@ -27,5 +26,5 @@ pub record RunsAlone (m : Module) (function : ℕ) (before after : Instance) (ou
   pub made_for : IsMadeFor m (map type_of_function host.functions)
   pub kind : host.world.kind ≡ Update
   pub argument : host.world.argument ≡ []
-  pub ran : HasRun replies host last (λ world. execute_with (limits_of before.limits.steps before.limits.pages before.limits.stack) m played function [] (store_with (kept before).memory (kept before).globals (kept before).table false world))
-      (store_with (standing after).memory (standing after).globals (standing after).table after.was_refused) (ended outcome after.left)
+  pub ran : HasRun replies host last (λ world. execute_with (limits_of before.limits.steps before.limits.pages before.limits.stack) m played function [] (store_with before.kept.memory before.kept.globals before.kept.table false world))
+      (store_with after.standing.memory after.standing.globals after.standing.table after.was_refused) (ended outcome after.left)

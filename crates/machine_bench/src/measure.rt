@@ -1,7 +1,6 @@
 //! The methods of a module in turn, by the clock.
 ghost use Rattle.std.specs.Prelude.{◌≡◌, IfOk};
 ghost use Rattle.wasm_instance.specs.Fits.{IsInstanceOf};
-ghost use Rattle.wasm_instance.specs.Views.{kept};
 
 use crate::method::run;
 use mo_num::{Principal, principal_of};
@@ -44,7 +43,7 @@ fn module_of(rt: &HostRuntime, alloc: Global, file: &str) -> io::Result<Valid> {
 }
 
 fn loaded(alloc: Global, tree: &Valid) -> io::Result<Instance>
-    ensures { IfOk result (λ instance. IsInstanceOf tree.now (kept instance)) }
+    ensures { IfOk result (λ instance. IsInstanceOf tree.now instance.kept) }
 {
     let mut instance = Instance::new(alloc, LIMITS).map_err(|_| lacking())?;
     if instance.load(tree).is_err() {
@@ -65,7 +64,7 @@ pub fn all(rt: &HostRuntime, alloc: Global, file: &str) -> io::Result<()> {
 const UPDATE: &[u8] = b"canister_update ";
 
 fn methods(rt: &HostRuntime, alloc: Global, tree: &Valid, instance: &mut Instance) -> io::Result<()>
-    requires { IsInstanceOf tree.now (kept instance.old) }
+    requires { IsInstanceOf tree.now instance.old.kept }
 {
     let Some(nobody) = principal_of(alloc, &[]) else {
         return Ok(());
@@ -87,8 +86,8 @@ fn method(
     name: &[u8],
     nobody: &Principal,
 ) -> io::Result<()>
-    requires { IsInstanceOf tree.now (kept instance.old) }
-    ensures { kept instance.new ≡ kept instance.old }
+    requires { IsInstanceOf tree.now instance.old.kept }
+    ensures { instance.new.kept ≡ instance.old.kept }
 {
     let Some(function) = exported(tree, name) else {
         return Ok(());
@@ -105,7 +104,7 @@ fn method(
         rt,
         alloc,
         name,
-        LIMITS.steps.saturating_sub(instance.left),
+        LIMITS.steps.saturating_sub(instance.left()),
         time,
         done,
     )

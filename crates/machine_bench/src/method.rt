@@ -3,7 +3,6 @@ ghost use Rattle.std.specs.Prelude.{◌≡◌, [], IfOk};
 ghost use Rattle.machine_bench.specs.Run.{RunsAlone};
 ghost use Rattle.wasm_machine.specs.Ran.{IsCallable};
 ghost use Rattle.wasm_instance.specs.Fits.{IsInstanceOf};
-ghost use Rattle.wasm_instance.specs.Views.{standing, kept};
 
 use canister_host::Interface;
 use ic0_world::{ExecutionKind, World};
@@ -47,10 +46,10 @@ pub fn run(
     function: u32,
     nobody: &Principal,
 ) -> Result<Outcome, Memory>
-    requires fits { IsInstanceOf tree.now (kept instance.old) }
+    requires fits { IsInstanceOf tree.now instance.old.kept }
     requires callable { IsCallable tree.now function [] }
     ensures ran { IfOk result (λ outcome. RunsAlone tree.now function instance.old instance.new outcome) }
-    ensures kept { kept instance.new ≡ kept instance.old }
+    ensures kept { instance.new.kept ≡ instance.old.kept }
     ensures limits { instance.new.limits ≡ instance.old.limits }
 {
     let functions = imported_functions(alloc, tree)?;

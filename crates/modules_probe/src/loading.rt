@@ -40,9 +40,9 @@ fn load_module(
             Err(refusal) => out.push_str(format!(in alloc; "{refusal:?}\n")?.as_str())?,
         },
     }
-    put_memory(alloc, out, instance.store.memory.bytes())?;
-    put_table(alloc, out, instance.store.table.as_slice())?;
-    put_globals(alloc, out, instance.store.globals.as_slice())
+    put_memory(alloc, out, instance.memory())?;
+    put_table(alloc, out, instance.table())?;
+    put_globals(alloc, out, instance.globals())
 }
 
 fn put_memory(alloc: Global, out: &mut String, bytes: &[u8]) -> Result<(), AllocError> {

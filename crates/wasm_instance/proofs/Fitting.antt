@@ -2,7 +2,7 @@
 use Rattle.std.proofs.lemmas.List.{length-map}
 use Rattle.std.proofs.Common.{◌≡◌, ◌+◌, ◌<◌, ◌≤◌, ℕ, zero, suc, Bool, true, false, cond, List, [], ◌∷◌, ◌++◌, length, take, drop, map, replicate, Option, Some, None, refl, sym, ap, subst, ◌∙◌, nat_le, arith}
 use Rattle.std.specs.Prelude.{IfSome, slice_get, ⊤}
-use Rattle.std.specs.List.{AllByRecursion}
+use Rattle.std.specs.List.{AllByRecursion, refill, length_refill}
 use Rattle.wasm_tree.specs.declared.module_parts.ElementSegment.{ElementSegment}
 use Rattle.wasm_tree.specs.declared.module_parts.Module.{Module}
 use Rattle.wasm_tree.specs.declared.rule.Rule.TheVariants as rule
@@ -124,3 +124,10 @@ mapped (Err cause) f p = tt
 pub fits_where_loaded : {A : Type 0} (pages : ℕ) (m : Module) (result : Result A LoadTrap) (left : Instance) → ValidModule m → Answers (load_within pages m) result left → OnOk result (IsInstanceOf m left)
 fits_where_loaded pages m result left valid a =
     mapped result (fits (record { steps = 0; pages = pages; stack = 0 }) m left valid) (answered (load_within pages m) result left a)
+
+-- It still is one when the globals are written.
+pub still_fits : (m : Module) (i now : Instance) (memory written : List ℕ) → i ≡ now → IsInstanceOf m now → IsInstanceOf m (record { memory = memory; globals = refill (length i.globals) i.globals written; table = i.table })
+still_fits m i now memory written same fits = record {
+  globals = fits.globals ∙ sym (ap (λ x. length x.globals) same) ∙ length_refill (length i.globals) i.globals written refl;
+  table = λ place function e. fits.table place function (ap (λ x. slice_get x.table place) (sym same) ∙ e);
+}

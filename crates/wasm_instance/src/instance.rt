@@ -1,15 +1,16 @@
 //! An instance of a module.
-ghost use Rattle.std.specs.Prelude.{◌≡◌, ◌≤◌, ◌*◌, vec_len};
+ghost use Rattle.std.specs.Prelude.{◌≡◌};
 ghost use Rattle.wasm_tree.specs.Exec.{most_pages};
 
 use std::alloc::{AllocError, Global};
+use std::marker::Model;
 use wasm_machine::{Host, Saved, Stop, execute};
 use wasm_store::{LoadTrap, Store};
 use wasm_tree::{Limits as Sizes, Trap};
 use wasm_valid::Valid;
 
 /// What each execution may use: steps, pages of memory, and stack words.
-#[derive(Clone, Copy, Debug, PartialEq, Eq)]
+#[derive(Clone, Copy)]
 pub struct Limits {
     pub steps: u64,
     pub pages: u32,
@@ -26,19 +27,29 @@ pub enum Outcome {
 }
 
 /// Memory, globals and table of a module, and all room that its executions need. It holds no module: whoever runs one
-/// gives the one that was loaded.
+/// gives the one that was loaded. Contracts see its limits, what stands and what the last commit kept, the steps that are
+/// left since `begin`, and whether memory was refused to grow since then.
 #[derive(Drop)]
 pub struct Instance {
-    pub limits: Limits,
-    pub store: Store,
-    /// The steps that are left since `begin`.
-    pub left: u64,
-    /// Whether memory was refused to grow since `begin`.
-    pub was_refused: bool,
+    limits: Limits,
+    store: Store,
+    left: u64,
+    was_refused: bool,
     cells: Vec<u64>,
     saved: Vec<Saved>,
-    ghost pages: { store.memory.limit ≡ limits.pages },
-    ghost room: { (limits.stack ≤ vec_len cells) × (limits.stack ≤ 8 * vec_len saved) },
+}
+
+impl Model for Instance {
+    ghost use Rattle.wasm_instance.specs.Views.{View};
+
+    ghost Value = { View };
+
+    ghost use Rattle.std.specs.Prelude.{◌≡◌, ◌≤◌, ◌*◌, vec_len};
+    ghost use Rattle.wasm_store.specs.Standing.{standing, kept};
+
+    ghost view = { λ i. record { limits = i.limits; standing = standing i.store; kept = kept i.store; left = i.left; was_refused = i.was_refused } };
+
+    ghost invariant = { λ i. (i.store.memory.limit ≡ i.limits.pages) × ((i.limits.stack ≤ vec_len i.cells) × (i.limits.stack ≤ 8 * vec_len i.saved)) };
 }
 
 // How many pages the module's memory may have.
@@ -62,7 +73,6 @@ impl Instance {
     ghost use Rattle.wasm_machine.specs.Asked.{IsMadeFor};
     ghost use Rattle.wasm_machine.specs.Hosts.{played};
     ghost use Rattle.wasm_machine.specs.Ran.{execute_with, limits_of, store_with, IsCallable, HasRun};
-    ghost use Rattle.wasm_instance.specs.Views.{standing, kept};
     ghost use Rattle.wasm_instance.specs.Fits.{IsInstanceOf, ended};
 
     /// An instance without a module. All memory is taken here: the stack, the pages of the limit, globals and table, and
@@ -70,8 +80,8 @@ impl Instance {
     pub fn new(alloc: Global, limits: Limits) -> Result<Self, AllocError>
         requires { limits.pages ≤ 65536 }
         ensures limits { IfOk result (λ instance. instance.limits ≡ limits) }
-        ensures empty { IfOk result (λ instance. standing instance ≡ nothing) }
-        ensures kept { IfOk result (λ instance. kept instance ≡ nothing) }
+        ensures empty { IfOk result (λ instance. instance.standing ≡ nothing) }
+        ensures kept { IfOk result (λ instance. instance.kept ≡ nothing) }
     {
         let stack = limits.stack as usize;
         let frame = Saved {
@@ -96,31 +106,66 @@ impl Instance {
         ensures left { self.new.left ≡ self.old.limits.steps }
         ensures refused { self.new.was_refused ≡ false }
         ensures limits { self.new.limits ≡ self.old.limits }
-        ensures standing { standing self.new ≡ standing self.old }
-        ensures kept { kept self.new ≡ kept self.old }
+        ensures standing { self.new.standing ≡ self.old.standing }
+        ensures kept { self.new.kept ≡ self.old.kept }
     {
         self.left = self.limits.steps;
         self.was_refused = false;
     }
 
+    /// What each execution may use.
+    pub fn limits(&self) -> Limits
+        ensures { result ≡ self.now.limits }
+    {
+        self.limits
+    }
+
+    /// The steps that are left since the last `begin`.
+    pub fn left(&self) -> u64
+        ensures { result ≡ self.now.left }
+    {
+        self.left
+    }
+
     /// Whether a `memory.grow` since the last `begin` answered -1.
-    pub fn refused(&self) -> bool
+    pub fn was_refused(&self) -> bool
         ensures { result ≡ self.now.was_refused }
     {
         self.was_refused
     }
 
+    /// The bytes of the memory.
+    pub fn memory(&self) -> &[u8]
+        ensures { result.now ≡ self.now.standing.memory }
+    {
+        self.store.memory.bytes()
+    }
+
+    /// The bits of the globals.
+    pub fn globals(&self) -> &[u64]
+        ensures { result.now ≡ self.now.standing.globals }
+    {
+        self.store.globals.as_slice()
+    }
+
+    /// The entries of the table.
+    pub fn table(&self) -> &[Option<u32>]
+        ensures { result.now ≡ self.now.standing.table }
+    {
+        self.store.table.as_slice()
+    }
+
     /// The function at this place of the table. `None` where the place is past the end, or its entry empty.
     pub fn table_entry(&self, place: u32) -> Option<u32>
-        ensures { result ≡ entry (slice_get self.now.store.table place) }
+        ensures { result ≡ entry (slice_get self.now.standing.table place) }
     {
         self.store.table_entry(place)
     }
 
     /// Keeps memory, globals and table as they are.
     pub fn commit(&mut self)
-        ensures standing { standing self.new ≡ standing self.old }
-        ensures kept { kept self.new ≡ standing self.old }
+        ensures standing { self.new.standing ≡ self.old.standing }
+        ensures kept { self.new.kept ≡ self.old.standing }
         ensures limits { self.new.limits ≡ self.old.limits }
         ensures left { self.new.left ≡ self.old.left }
         ensures refused { self.new.was_refused ≡ self.old.was_refused }
@@ -130,8 +175,8 @@ impl Instance {
 
     /// Puts back what the last commit kept; before the first one, an instance without a module.
     pub fn restore(&mut self)
-        ensures standing { standing self.new ≡ kept self.old }
-        ensures kept { kept self.new ≡ kept self.old }
+        ensures standing { self.new.standing ≡ self.old.kept }
+        ensures kept { self.new.kept ≡ self.old.kept }
         ensures limits { self.new.limits ≡ self.old.limits }
         ensures left { self.new.left ≡ self.old.left }
         ensures refused { self.new.was_refused ≡ self.old.was_refused }
@@ -141,9 +186,9 @@ impl Instance {
 
     /// Loads the module. After a refusal no module is there.
     pub fn load(&mut self, tree: &Valid) -> Result<(), LoadTrap>
-        ensures answer { Answers (load_within self.old.limits.pages tree.now) result (standing self.new) }
-        ensures fits { OnOk result (IsInstanceOf tree.now (standing self.new)) }
-        ensures kept { kept self.new ≡ kept self.old }
+        ensures answer { Answers (load_within self.old.limits.pages tree.now) result self.new.standing }
+        ensures fits { OnOk result (IsInstanceOf tree.now self.new.standing) }
+        ensures kept { self.new.kept ≡ self.old.kept }
         ensures limits { self.new.limits ≡ self.old.limits }
         ensures left { self.new.left ≡ self.old.left }
         ensures refused { self.new.was_refused ≡ self.old.was_refused }
@@ -160,15 +205,15 @@ impl Instance {
         args: &[u64],
         host: &mut H,
     ) -> Outcome
-        requires fits { IsInstanceOf tree.now (standing self.old) }
+        requires fits { IsInstanceOf tree.now self.old.standing }
         requires callable { IsCallable tree.now function args.now }
         requires made_for { IsMadeFor tree.now (H.types host.old) }
-        ensures ran { HasRun H.replies host.old host.new (λ world. execute_with (limits_of self.old.left self.old.limits.pages self.old.limits.stack) tree.now played function args.now (store_with self.old.store.memory.bytes self.old.store.globals self.old.store.table self.old.was_refused world)) (store_with self.new.store.memory.bytes self.new.store.globals self.new.store.table self.new.was_refused) (ended result self.new.left) }
-        ensures fits { IsInstanceOf tree.now (standing self.new) }
+        ensures ran { HasRun H.replies host.old host.new (λ world. execute_with (limits_of self.old.left self.old.limits.pages self.old.limits.stack) tree.now played function args.now (store_with self.old.standing.memory self.old.standing.globals self.old.standing.table self.old.was_refused world)) (store_with self.new.standing.memory self.new.standing.globals self.new.standing.table self.new.was_refused) (ended result self.new.left) }
+        ensures fits { IsInstanceOf tree.now self.new.standing }
         ensures types { H.types host.new ≡ H.types host.old }
         ensures count { H.count host.old ≤ H.count host.new }
         ensures memory { result ≡ Outcome.Memory → Rose (H.count host.old) (H.count host.new) }
-        ensures kept { kept self.new ≡ kept self.old }
+        ensures kept { self.new.kept ≡ self.old.kept }
         ensures limits { self.new.limits ≡ self.old.limits }
     {
         let module = tree.module();

@@ -21,7 +21,7 @@ use wasm_tree::Module;
 /// Takes turns until the outermost activation ends, and gives the steps that are left, or until the run stops.
 pub fn drive<H: Host>(
     host: &mut H,
-    module: &Module,
+    tree: &Module,
     layout: &ModuleLayout,
     table: &[Option<u32>],
     most: u32,
@@ -33,14 +33,14 @@ pub fn drive<H: Host>(
     memory: &mut KeptPages,
     refused: &mut bool,
 ) -> Result<u64, Stop>
-    requires laid { IsModuleLayout module.now layout.now }
-    requires made_for { IsMadeFor module.now (H.types host.old) }
+    requires laid { IsModuleLayout tree.now layout.now }
+    requires made_for { IsMadeFor tree.now (H.types host.old) }
     requires table { IsTableOf layout.now table.now }
     requires most { most ≤ memory.old.limit }
-    requires some { SomeStart module.now layout.now table.now most saved.old cells.old first limit (parts memory.old.bytes globals.old refused.old) }
+    requires some { SomeStart tree.now layout.now table.now most saved.old cells.old first limit (parts memory.old.bytes globals.old refused.old) }
     requires stacked { IsStacked saved.old cells.old first }
     requires held { first.base + first.count + first.held ≤ length cells.old }
-    ensures ended { (k : Machine) (whole : List Reply → Final Play) → k.within ≡ module.now → k.table ≡ table.now → page_bound (with_world k (play [] [])) ≡ most → ((rest : List Reply) → RunsAt k layout.now.steps (whole rest) (play [] rest) saved.old cells.old first limit (parts memory.old.bytes globals.old refused.old)) → Ended H.replies host.old host.new whole k (parts memory.new.bytes globals.new refused.new) result }
+    ensures ended { (k : Machine) (whole : List Reply → Final Play) → k.within ≡ tree.now → k.table ≡ table.now → page_bound (with_world k (play [] [])) ≡ most → ((rest : List Reply) → RunsAt k layout.now.steps (whole rest) (play [] rest) saved.old cells.old first limit (parts memory.old.bytes globals.old refused.old)) → Ended H.replies host.old host.new whole k (parts memory.new.bytes globals.new refused.new) result }
     ensures types { H.types host.new ≡ H.types host.old }
     ensures limit { memory.new.limit ≡ memory.old.limit }
     ensures kept { memory.new.kept ≡ memory.old.kept }
@@ -51,7 +51,7 @@ pub fn drive<H: Host>(
     let mut left = limit;
     loop {
         match take_turn(
-            host, module, layout, table, most, here, left, cells, saved, globals, memory, refused,
+            host, tree, layout, table, most, here, left, cells, saved, globals, memory, refused,
         ) {
             Ok(
                 Turn::On {

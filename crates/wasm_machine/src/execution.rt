@@ -54,7 +54,7 @@ fn enter_host<H: Host>(
 /// the module.
 pub fn execute<H: Host>(
     host: &mut H,
-    module: &Module,
+    tree: &Module,
     layout: &ModuleLayout,
     table: &[Option<u32>],
     most: u32,
@@ -68,15 +68,15 @@ pub fn execute<H: Host>(
     memory: &mut KeptPages,
     refused: &mut bool,
 ) -> Result<u64, Stop>
-    requires laid { IsModuleLayout module.now layout.now }
-    requires made_for { IsMadeFor module.now (H.types host.old) }
+    requires laid { IsModuleLayout tree.now layout.now }
+    requires made_for { IsMadeFor tree.now (H.types host.old) }
     requires table { IsTableOf layout.now table.now }
-    requires most { most ≡ min memory.old.limit (most_pages module.now.memories) }
-    requires callable { IsCallable module.now function args.now }
+    requires most { most ≡ min memory.old.limit (most_pages tree.now.memories) }
+    requires callable { IsCallable tree.now function args.now }
     requires cells { words ≤ length cells.old }
     requires frames { words ≤ 8 * length saved.old }
-    requires globals { length module.now.globals ≡ length globals.old }
-    ensures ran { HasRun H.replies host.old host.new (λ world. execute_with (limits_of limit memory.old.limit words) module.now played function args.now (store_with memory.old.bytes globals.old table.now refused.old world)) (store_with memory.new.bytes globals.new table.now refused.new) result }
+    requires globals { length tree.now.globals ≡ length globals.old }
+    ensures ran { HasRun H.replies host.old host.new (λ world. execute_with (limits_of limit memory.old.limit words) tree.now played function args.now (store_with memory.old.bytes globals.old table.now refused.old world)) (store_with memory.new.bytes globals.new table.now refused.new) result }
     ensures types { H.types host.new ≡ H.types host.old }
     ensures limit { memory.new.limit ≡ memory.old.limit }
     ensures kept { memory.new.kept ≡ memory.old.kept }
@@ -101,7 +101,7 @@ pub fn execute<H: Host>(
                 depth: 0,
             };
             drive(
-                host, module, layout, table, most, first, limit, cells, saved, globals, memory,
+                host, tree, layout, table, most, first, limit, cells, saved, globals, memory,
                 refused,
             )
         }

@@ -45,35 +45,35 @@ fn is_same_type(a: &FunctionType, b: &FunctionType) -> bool
 }
 
 // Whether the function has a type like the one with this index.
-fn has_type(module: &Module, layout: &ModuleLayout, function: u32, signature: u32) -> bool
-    requires laid { IsModuleLayout module.now layout.now }
+fn has_type(tree: &Module, layout: &ModuleLayout, function: u32, signature: u32) -> bool
+    requires laid { IsModuleLayout tree.now layout.now }
     requires function { function < length layout.now.functions }
-    requires signature { signature < length module.now.types }
-    ensures { result ≡ same_type (type_of module.now function) (slice_get module.now.types signature) }
+    requires signature { signature < length tree.now.types }
+    ensures { result ≡ same_type (type_of tree.now function) (slice_get tree.now.types signature) }
 {
     let own = function_at(layout, function).signature;
-    let types = module.types.as_slice();
+    let types = tree.types.as_slice();
     is_same_type(&types[own as usize], &types[signature as usize])
 }
 
 /// The function at this place of the table, where there is one and its type is like the one with this index.
 pub fn seek(
-    module: &Module,
+    tree: &Module,
     layout: &ModuleLayout,
     table: &[Option<u32>],
     signature: u32,
     at: u64,
 ) -> Option<u32>
-    requires laid { IsModuleLayout module.now layout.now }
+    requires laid { IsModuleLayout tree.now layout.now }
     requires table { (i f : ℕ) → slice_get table.now i ≡ Some (Some f) → f < length layout.now.functions }
-    requires signature { signature < length module.now.types }
-    ensures { result ≡ sought module.now signature (entry (slice_get table.now at)) }
+    requires signature { signature < length tree.now.types }
+    ensures { result ≡ sought tree.now signature (entry (slice_get table.now at)) }
 {
     if at >= table.len() as u64 {
         return None;
     }
     let function = table[at as usize]?;
-    if has_type(module, layout, function, signature) {
+    if has_type(tree, layout, function, signature) {
         Some(function)
     } else {
         None

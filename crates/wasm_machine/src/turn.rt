@@ -40,7 +40,7 @@ fn on(called: Result<Here, Stop>, left: u64) -> Result<Turn, Stop>
 /// Runs the innermost activation until it ends or calls a function, and then begins what it calls, or its caller.
 pub fn take_turn<H: Host>(
     host: &mut H,
-    module: &Module,
+    tree: &Module,
     layout: &ModuleLayout,
     table: &[Option<u32>],
     most: u32,
@@ -52,16 +52,16 @@ pub fn take_turn<H: Host>(
     memory: &mut KeptPages,
     refused: &mut bool,
 ) -> Result<Turn, Stop>
-    requires laid { IsModuleLayout module.now layout.now }
-    requires made_for { IsMadeFor module.now (H.types host.old) }
+    requires laid { IsModuleLayout tree.now layout.now }
+    requires made_for { IsMadeFor tree.now (H.types host.old) }
     requires table { IsTableOf layout.now table.now }
     requires most { most ≤ memory.old.limit }
-    requires some { SomeRuns module.now layout.now table.now most saved.old cells.old here left (parts memory.old.bytes globals.old refused.old) }
+    requires some { SomeRuns tree.now layout.now table.now most saved.old cells.old here left (parts memory.old.bytes globals.old refused.old) }
     requires stacked { IsStacked saved.old cells.old here }
     requires held { here.base + here.count + here.held ≤ length cells.old }
     ensures less { IsLess here left result }
     ensures fit { IsFit here saved.new cells.new result }
-    ensures turned { (k : Machine) (whole : List Reply → Final Play) (made : List HostCall) → k.within ≡ module.now → k.table ≡ table.now → page_bound (with_world k (play made [])) ≡ most → ((rest : List Reply) → RunsAt k layout.now.steps (whole rest) (play made rest) saved.old cells.old here left (parts memory.old.bytes globals.old refused.old)) → Turned H.replies host.old host.new made whole k layout.now.steps here saved.new cells.new (parts memory.new.bytes globals.new refused.new) result }
+    ensures turned { (k : Machine) (whole : List Reply → Final Play) (made : List HostCall) → k.within ≡ tree.now → k.table ≡ table.now → page_bound (with_world k (play made [])) ≡ most → ((rest : List Reply) → RunsAt k layout.now.steps (whole rest) (play made rest) saved.old cells.old here left (parts memory.old.bytes globals.old refused.old)) → Turned H.replies host.old host.new made whole k layout.now.steps here saved.new cells.new (parts memory.new.bytes globals.new refused.new) result }
     ensures types { H.types host.new ≡ H.types host.old }
     ensures limit { memory.new.limit ≡ memory.old.limit }
     ensures kept { memory.new.kept ≡ memory.old.kept }
@@ -106,7 +106,7 @@ pub fn take_turn<H: Host>(
             place,
             left: rest,
             held,
-        } => match seek(module, layout, table, signature, at) {
+        } => match seek(tree, layout, table, signature, at) {
             Some(function) => {
                 let called = call(
                     host, layout, function, place, held, here, cells, saved, memory,

@@ -1,10 +1,10 @@
-//! Loads and stores (section 4.4.4). Bytes stand in little endian.
-ghost use Rattle.std.specs.Prelude.{◌≡◌, ◌+◌, ◌<◌, ◌≤◌, ◌++◌, ◌%◌, ◌^◌, length, take, drop, nat_le, if◌then◌else◌};
-ghost use Rattle.wasm_tree.specs.Exec.{number_of, bytes_of, extended, store_size};
-ghost use Rattle.wasm_numeric.specs.Memory.{loaded, stored, read, written};
+//! Loads (section 4.4.4). Bytes stand in little endian.
+ghost use Rattle.std.specs.Prelude.{◌≡◌, ◌+◌, ◌<◌, ◌≤◌, ◌^◌, nat_le};
+ghost use Rattle.wasm_tree.specs.Exec.{extended};
+ghost use Rattle.wasm_numeric.specs.Memory.{loaded, read};
 
 use crate::conversion::{convert, word32, word64};
-use wasm_tree::{Conversion, LoadKind, StoreKind};
+use wasm_tree::{Conversion, LoadKind};
 
 /// What a load from this address gives, or `None` where one of its bytes would lie past the memory's end.
 #[inline(always)]
@@ -21,21 +21,6 @@ pub fn load(kind: LoadKind, memory: &[u8], address: u64) -> Option<u64>
         LoadKind::I64From8S => Some(extend8_to_64(read8(memory, address)?)),
         LoadKind::I64From16S => Some(extend16_to_64(read16(memory, address)?)),
         LoadKind::I64From32S => Some(extend32_to_64(read32(memory, address)?)),
-    }
-}
-
-/// Writes the low bytes of the value at this address, and gives true. Where one of them would lie past the memory's
-/// end, it gives false, and nothing is written.
-#[inline(always)]
-pub fn store(kind: StoreKind, memory: &mut [u8], address: u64, value: u64) -> bool
-    ensures inside { result ≡ nat_le (address + store_size kind) (length memory.old) }
-    ensures written { memory.new ≡ (if result then stored kind memory.old address value else memory.old) }
-{
-    match kind {
-        StoreKind::I32 | StoreKind::I64To32 => write32(memory, address, value),
-        StoreKind::I64 => write64(memory, address, value),
-        StoreKind::I32To8 | StoreKind::I64To8 => write8(memory, address, value),
-        StoreKind::I32To16 | StoreKind::I64To16 => write16(memory, address, value),
     }
 }
 
@@ -95,58 +80,6 @@ fn read64(memory: &[u8], address: u64) -> Option<u64>
     Some(u64::from_le_bytes([
         bytes[0], bytes[1], bytes[2], bytes[3], bytes[4], bytes[5], bytes[6], bytes[7],
     ]))
-}
-
-#[inline(always)]
-fn write8(memory: &mut [u8], address: u64, value: u64) -> bool
-    ensures inside { result ≡ nat_le (address + 1) (length memory.old) }
-    ensures written { memory.new ≡ (if result then written 1 memory.old address value else memory.old) }
-{
-    if !is_inside(memory.len(), address, 1) {
-        return false;
-    }
-    let at = address as usize;
-    memory[at..at + 1].copy_from_slice(&((value % 0x100) as u8).to_le_bytes());
-    true
-}
-
-#[inline(always)]
-fn write16(memory: &mut [u8], address: u64, value: u64) -> bool
-    ensures inside { result ≡ nat_le (address + 2) (length memory.old) }
-    ensures written { memory.new ≡ (if result then written 2 memory.old address value else memory.old) }
-{
-    if !is_inside(memory.len(), address, 2) {
-        return false;
-    }
-    let at = address as usize;
-    memory[at..at + 2].copy_from_slice(&((value % 0x10000) as u16).to_le_bytes());
-    true
-}
-
-#[inline(always)]
-fn write32(memory: &mut [u8], address: u64, value: u64) -> bool
-    ensures inside { result ≡ nat_le (address + 4) (length memory.old) }
-    ensures written { memory.new ≡ (if result then written 4 memory.old address value else memory.old) }
-{
-    if !is_inside(memory.len(), address, 4) {
-        return false;
-    }
-    let at = address as usize;
-    memory[at..at + 4].copy_from_slice(&((value % 0x100000000) as u32).to_le_bytes());
-    true
-}
-
-#[inline(always)]
-fn write64(memory: &mut [u8], address: u64, value: u64) -> bool
-    ensures inside { result ≡ nat_le (address + 8) (length memory.old) }
-    ensures written { memory.new ≡ (if result then written 8 memory.old address value else memory.old) }
-{
-    if !is_inside(memory.len(), address, 8) {
-        return false;
-    }
-    let at = address as usize;
-    memory[at..at + 8].copy_from_slice(&value.to_le_bytes());
-    true
 }
 
 #[inline(always)]

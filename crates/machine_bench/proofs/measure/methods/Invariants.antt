@@ -1,6 +1,5 @@
 use Rattle.std.proofs.Common.{◌≡◌}
-use Rattle.wasm_instance.specs.Views.{kept}
 use Rattle.machine_bench.proofs.measure.methods.Given as goal
 
 abbrev pub invariant-loop-export : goal.invariant-loop-export
-invariant-loop-export l = kept l.instance ≡ kept l.fn.instance
+invariant-loop-export l = l.instance.kept ≡ l.fn.instance.kept

@@ -4,7 +4,6 @@ use Rattle.ic0_world.specs.declared.function.Ic0.{Ic0}
 use Rattle.canister_host.specs.Types.{type_of_function}
 use Rattle.ic0_world.specs.declared.world.World.{World}
 use Rattle.wasm_instance.specs.declared.instance.Limits.{Limits}
-use Rattle.wasm_instance.specs.Views.{standing, kept}
 use Rattle.machine_bench.proofs.Running.{ran_as}
 use Rattle.machine_bench.proofs.method.run.Goals as goal
 
@@ -20,6 +19,6 @@ returns-clause-ran c =
       made_for = subst (λ (l : List Ic0). IsMadeFor c.args.tree.now (map type_of_function l)) (sym c.new-host.ensures.functions) c.in_ok-functions.ensures.made_for;
       kind = ap (λ (w : World). w.kind) c.new-host.ensures.world ∙ c.in_ok-new_world.ensures.kind;
       argument = ap (λ (w : World). w.argument) c.new-host.ensures.world ∙ c.in_ok-new_world.ensures.argument;
-      ran = ran_as c.new-host.result c.run.new.host c.args.tree.now c.args.function c.begin.new.self.limits c.args.instance.now.limits c.begin.new.self.left c.args.instance.now.limits.steps (standing c.begin.new.self) (kept c.args.instance.now) c.begin.new.self.was_refused _ _
+      ran = ran_as c.new-host.result c.run.new.host c.args.tree.now c.args.function c.begin.new.self.limits c.args.instance.now.limits c.begin.new.self.left c.args.instance.now.limits.steps c.begin.new.self.standing c.args.instance.now.kept c.begin.new.self.was_refused _ _
           c.run.ensures.ran limits (c.begin.ensures.left ∙ ap (λ (l : Limits). l.steps) c.restore.ensures.limits) (c.begin.ensures.standing ∙ c.restore.ensures.standing) c.begin.ensures.refused;
     }

@@ -18,7 +18,7 @@ loop-next-init g c = record {
 }
 
 pub take_turn-requires-clause-made_for : goal.take_turn-requires-clause-made_for
-take_turn-requires-clause-made_for g c = subst (λ ts. IsMadeFor c.args.«module».now ts) (sym c.loop-next.invariant.types) c.requires.made_for
+take_turn-requires-clause-made_for g c = subst (λ ts. IsMadeFor c.args.tree.now ts) (sym c.loop-next.invariant.types) c.requires.made_for
 
 pub take_turn-requires-clause-most : goal.take_turn-requires-clause-most
 take_turn-requires-clause-most g c = let h = c.requires.most in let e = c.loop-next.invariant.limit in omega arith

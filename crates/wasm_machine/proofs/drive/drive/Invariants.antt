@@ -15,7 +15,7 @@ invariant-loop-next g l = record {
   globals : length l.globals ≡ length l.fn.globals;
   types : g.H.Host.types l.host ≡ g.H.Host.types l.fn.host;
   count : g.H.Host.count l.fn.host ≤ g.H.Host.count l.host;
-  logged : (k : Machine) (whole : List Reply → Final Play) → k.within ≡ l.«module» → k.table ≡ l.table → page_bound (with_world k (play [] [])) ≡ l.most → ((rest : List Reply) → RunsAt k l.layout.steps (whole rest) (play [] rest) l.fn.saved l.fn.cells l.fn.first l.fn.limit (parts l.fn.memory.bytes l.fn.globals l.fn.refused)) → GoesOn g.H.Host.replies l.fn.host l.host [] whole (λ rest end world. RunsAt k l.layout.steps end world l.saved l.cells l.here l.left (parts l.memory.bytes l.globals l.refused));
+  logged : (k : Machine) (whole : List Reply → Final Play) → k.within ≡ l.tree → k.table ≡ l.table → page_bound (with_world k (play [] [])) ≡ l.most → ((rest : List Reply) → RunsAt k l.layout.steps (whole rest) (play [] rest) l.fn.saved l.fn.cells l.fn.first l.fn.limit (parts l.fn.memory.bytes l.fn.globals l.fn.refused)) → GoesOn g.H.Host.replies l.fn.host l.host [] whole (λ rest end world. RunsAt k l.layout.steps end world l.saved l.cells l.here l.left (parts l.memory.bytes l.globals l.refused));
 }
 
 abbrev pub decreases-loop-next : goal.decreases-loop-next

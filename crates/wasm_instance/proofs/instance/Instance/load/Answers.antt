@@ -8,4 +8,4 @@ use Rattle.wasm_instance.proofs.instance.Instance.load.Goals as goal
 pub returns-clause-fits : goal.returns-clause-fits
 returns-clause-fits c =
     subst (λ m. OnOk c.load.result (IsInstanceOf m (store.standing c.load.new.self))) c.module.ensures.is
-    (fits_where_loaded c.args.self.now.store.memory.limit c.module.result.now c.load.result (store.standing c.load.new.self) c.module.ensures.valid c.load.ensures.answer)
+    (fits_where_loaded c.self.inside.store.memory.limit c.module.result.now c.load.result (store.standing c.load.new.self) c.module.ensures.valid c.load.ensures.answer)
