@@ -227,13 +227,20 @@ impl ProgramWalk {
         }
     }
 
+    fn add_values(self, fields: &[Node<ActorField>], names: &mut Names) -> Result<(), Memory>
+        ensures { OnOk result (names.new ≡ names.old ++ flat_map field_values fields.now) }
+    {
+        for one in fields {
+            self.field_values(one.get(), names)?;
+        }
+        Ok(())
+    }
+
     fn all_values(self, fields: &[Node<ActorField>]) -> Result<Names, Memory>
         ensures { IfOk result (λ made. made ≡ flat_map field_values fields.now) }
     {
         let mut names = Names::new(self.walk.alloc);
-        for one in fields {
-            self.field_values(one.get(), &mut names)?;
-        }
+        self.add_values(fields, &mut names)?;
         Ok(names)
     }
 
@@ -327,9 +334,7 @@ impl ProgramWalk {
         ensures { IfOk result (λ made. made ≡ name_of actor.now.name ++ flat_map field_values actor.now.fields) }
     {
         let mut names = self.actor_name(actor)?;
-        for one in actor.fields.as_slice() {
-            self.field_values(one.get(), &mut names)?;
-        }
+        self.add_values(actor.fields.as_slice(), &mut names)?;
         Ok(names)
     }
 
