@@ -11,12 +11,13 @@ use Rattle.mo_types.specs.Wire.{wire}
 use Rattle.mo_types.specs.Values.{Values, flat}
 use Rattle.mo_types.specs.Spelling.{padded, FewEmpty}
 use Rattle.mo_types.specs.Code.{Reads}
-use Rattle.candid_header.specs.declared.fault.Stop.{Stop}
-use Rattle.candid_header.specs.declared.fault.Stop.TheVariants as stop
+use Rattle.candid_header.specs.declared.fault.Fault.{Fault}
+use Rattle.exact_reading.specs.declared.stop.Stop.{Stop}
+use Rattle.exact_reading.specs.declared.stop.Stop.TheVariants as stop
 use Rattle.candid_header.specs.declared.header.Header.{Header}
 use Rattle.candid_header.specs.Header as header
 use Rattle.candid_header.specs.Header.{header_at}
-use Rattle.candid_header.specs.Reading.{Fails}
+use Rattle.exact_reading.specs.Reading.{Fails}
 use Rattle.candid_forms.proofs.Few.{few_bytes}
 use Rattle.candid_forms.proofs.Whole.{forms_to, forms_from}
 use Rattle.candid_read.specs.Whole.{Takes, Finds, Leaves, IfFault}
@@ -59,7 +60,7 @@ module _ (slots : List Slot) (ids : List TypeId) (bytes : List ℕ) where
     are_values = forms_from padded (FewEmpty (wire (head_at slots))) (head_at slots) ids values r.spelled.back r.typed r.spelled.second
 
     -- where no header is read
-    pub no_header : (e : Stop) → ((h : Header) (rest : List ℕ) → header.Reads h bytes rest → header.Finds {X = Header × List ℕ} (λ x. x) (Err e) h rest) → Decodes {X = Data} (λ d. d.parts) (Err e) (flat values)
+    pub no_header : (e : Stop Fault) → ((h : Header) (rest : List ℕ) → header.Reads h bytes rest → header.Finds {X = Header × List ℕ} (λ x. x) (Err e) h rest) → Decodes {X = Data} (λ d. d.parts) (Err e) (flat values)
     no_header stop.Memory only = tt
     no_header (stop.Fault f) only = only the_header r.spelled.back is_read
 
@@ -74,12 +75,12 @@ module _ (slots : List Slot) (ids : List TypeId) (bytes : List ℕ) where
       not_other apart = apart (subst (Declares slots ids) (sym same_header) is_declared)
 
       -- where no values are read
-      pub no_values : (e : Stop) → ((v : Values) (front left : List ℕ) → Read slots ids v front → rest ≡ front ++ left → Finds {X = List Datum × List ℕ} (λ x. x) (Err e) (flat v) left) → Decodes {X = Data} (λ d. d.parts) (Err e) (flat values)
+      pub no_values : (e : Stop Fault) → ((v : Values) (front left : List ℕ) → Read slots ids v front → rest ≡ front ++ left → Finds {X = List Datum × List ℕ} (λ x. x) (Err e) (flat v) left) → Decodes {X = Data} (λ d. d.parts) (Err e) (flat values)
       no_values stop.Memory only_values = tt
       no_values (stop.Fault f) only_values = only_values values r.spelled.back [] are_values (same_rest ∙ sym (append-nil r.spelled.back))
 
       -- where no values are gone over
-      pub not_over : (e : Stop) → ((v : Values) (front left : List ℕ) → Read slots ids v front → rest ≡ front ++ left → Leaves {X = List ℕ} (λ x. x) (Err e) left) → Decodes {X = Data} (λ d. d.parts) (Err e) (flat values)
+      pub not_over : (e : Stop Fault) → ((v : Values) (front left : List ℕ) → Read slots ids v front → rest ≡ front ++ left → Leaves {X = List ℕ} (λ x. x) (Err e) left) → Decodes {X = Data} (λ d. d.parts) (Err e) (flat values)
       not_over stop.Memory only_values = tt
       not_over (stop.Fault f) only_values = only_values values r.spelled.back [] are_values (same_rest ∙ sym (append-nil r.spelled.back))
 
@@ -91,14 +92,14 @@ module _ (slots : List Slot) (ids : List TypeId) (bytes : List ℕ) where
           let e = only_values values r.spelled.back [] are_values (same_rest ∙ sym (append-nil r.spelled.back)) in
           (ap (λ (x : List Datum × List ℕ). x.0) e, ap (λ (x : List Datum × List ℕ). x.1) e)
 
-abbrev IsFirst : List Slot → List TypeId → List ℕ → Stop → Type 0
+abbrev IsFirst : List Slot → List TypeId → List ℕ → Stop Fault → Type 0
 IsFirst slots ids bytes e = IfFault {X = Data} (Err e) (λ f. FirstFault slots ids bytes f)
 
-pub in_header : (slots : List Slot) (ids : List TypeId) (bytes : List ℕ) (e : Stop) → Fails e (header_at bytes) → IsFirst slots ids bytes e
+pub in_header : (slots : List Slot) (ids : List TypeId) (bytes : List ℕ) (e : Stop Fault) → Fails e (header_at bytes) → IsFirst slots ids bytes e
 in_header slots ids bytes stop.Memory h = tt
 in_header slots ids bytes (stop.Fault f) h = InHeader h
 
-pub in_values : (slots : List Slot) (ids : List TypeId) (bytes : List ℕ) (h : Header) (rest : List ℕ) (e : Stop) → header_at bytes ≡ Ok (h, rest) → Declares slots ids h → IfFault {X = Data} (Err e) (λ f. Breaks slots ids rest f) → IsFirst slots ids bytes e
+pub in_values : (slots : List Slot) (ids : List TypeId) (bytes : List ℕ) (h : Header) (rest : List ℕ) (e : Stop Fault) → header_at bytes ≡ Ok (h, rest) → Declares slots ids h → IfFault {X = Data} (Err e) (λ f. Breaks slots ids rest f) → IsFirst slots ids bytes e
 in_values slots ids bytes h rest stop.Memory at d b = tt
 in_values slots ids bytes h rest (stop.Fault f) at d b = InValues h rest at d b
 

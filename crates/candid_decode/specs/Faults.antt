@@ -7,8 +7,8 @@ use Rattle.mo_types.specs.Values.{Values}
 use Rattle.mo_types.specs.Code.{SameEach}
 use Rattle.candid_header.specs.declared.fault.Fault.{Fault}
 use Rattle.candid_header.specs.declared.fault.Fault.TheVariants.{Trailing, NotSubtype}
-use Rattle.candid_header.specs.declared.fault.Stop.{Stop}
-use Rattle.candid_header.specs.declared.fault.Stop.TheVariants as stop
+use Rattle.exact_reading.specs.declared.stop.Stop.{Stop}
+use Rattle.exact_reading.specs.declared.stop.Stop.TheVariants as stop
 use Rattle.candid_header.specs.declared.header.Header.{Header}
 use Rattle.candid_header.specs.Header.{header_at}
 use Rattle.candid_read.specs.Whole.{Takes}
@@ -30,7 +30,7 @@ module _ (slots : List Slot) (ids : List TypeId) where
     Behind : (h : Header) (rest left : List ℕ) (values : Values) → header_at bytes ≡ Ok (h, rest) → Declares h → Takes (Read slots ids values) rest left → left ≢ [] → FirstFault bytes Trailing
 
 -- these parts, or memory ran out
-abbrev pub Decodes : {X : Type 0} → (X → List Datum) → Result X Stop → List Datum → Type 0
+abbrev pub Decodes : {X : Type 0} → (X → List Datum) → Result X (Stop Fault) → List Datum → Type 0
 Decodes parts (Ok x) ps = parts x ≡ ps
 Decodes parts (Err stop.Memory) ps = Unit {0}
 Decodes parts (Err (stop.Fault f)) ps = ⊥

@@ -2,7 +2,7 @@
 ghost use Rattle.std.specs.Prelude.{map};
 ghost use Rattle.mo_types.specs.Graph.{head_at};
 ghost use Rattle.candid_types.specs.Shapes.{IsTableOf, ref_of};
-ghost use Rattle.candid_header.specs.declared.fault.Stop.TheVariants as stop;
+ghost use Rattle.exact_reading.specs.declared.stop.Stop.TheVariants as stop;
 ghost use Rattle.candid_read.specs.Whole.{IfFault};
 ghost use Rattle.candid_encode.specs.Puts.{Puts};
 ghost use Rattle.candid_encode.specs.Flat.{Holds, Writes};

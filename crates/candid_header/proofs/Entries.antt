@@ -13,9 +13,11 @@ use Rattle.mo_types.specs.Spelling.{padded, Then}
 use Rattle.mo_types.specs.Header.{IsByte, IsList, IsField, IsMethod, IsEntry, IsTableRef, IsWithin, RisingIds, RisingNames, IsFunction, or_empty, table_head, IsSound}
 use Rattle.candid_header.specs.declared.fault.Fault.{Fault}
 use Rattle.candid_header.specs.declared.fault.Fault.TheVariants.{BadTable}
-use Rattle.candid_header.specs.Reading.{◌>>=◌, both, many, list_at, u32_at}
+use Rattle.exact_reading.specs.Reading.{◌>>=◌, both}
+use Rattle.candid_header.specs.Reading.{many, list_at, u32_at}
 use Rattle.candid_header.specs.Table.{ref_at, refs_at, bytes_at, no_state, field_at, id_of, method_at, name_of, func, func_at, entry_by, entry_at, entry_item, entries_at, is_func, is_some_func, is_func_at, have_functions, are_functions, table_at}
-use Rattle.candid_header.proofs.Exact.{Front, Exact, bind_ok, if_ok, not_ok, both_exact, kept_exact, eq_is, coded, announced, chosen_by}
+use Rattle.exact_reading.proofs.Exact.{Front, Exact, bind_ok, if_ok, not_ok, kept_exact, eq_is, announced}
+use Rattle.candid_header.proofs.Exact.{both_exact, coded, chosen_by}
 use Rattle.candid_header.proofs.Numbers.{IsU32, u32_exact}
 use Rattle.candid_header.proofs.Refs.{IsRefIn, ref_exact}
 use Rattle.candid_header.proofs.Lists.{Linked, many_sound, many_complete, AreRefs, refs_exact, AreFields, fields_exact, AreMethods, methods_exact, bytes_exact}

@@ -1,7 +1,6 @@
 pub mod Exact
 pub mod Numbers
 pub mod Names
-pub mod Many
 pub mod Refs
 pub mod Lists
 pub mod Entries

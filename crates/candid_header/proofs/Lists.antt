@@ -1,9 +1,6 @@
 -- Lists of a header are read exactly.
-use Rattle.std.proofs.Common.{◌≡◌, ℕ, zero, suc, ◌≤◌, true, false, cond, List, [], ◌∷◌, ◌++◌, length, take, drop, Option, Some, None, Result, Ok, Err, ◌⊎◌, inl, inr, refl, sym, ap, ◌∙◌, subst, append_assoc, length-append, arith}
-use Rattle.std.specs.Prelude.{nat_lt}
-use Rattle.std.proofs.lemmas.Bool.{lt-ltb, le-ltb, ltb-true, ltb-false}
-use Rattle.std.proofs.Math.Seq.{drop-append_seam, take-append_seam}
-use Rattle.std.proofs.Common.{take-append-drop, length-take-le}
+use Rattle.std.proofs.Common.{◌≡◌, ℕ, true, List, [], ◌∷◌, ◌++◌, length, Option, Some, None, Ok, refl, ap, ◌∙◌}
+use Rattle.std.proofs.lemmas.Bool.{lt-ltb, ltb-true}
 use Rattle.mo_types.specs.Sub.{Each}
 use Rattle.mo_types.specs.declared.wire.Entry.{Entry}
 use Rattle.mo_types.specs.declared.wire.Method.{Method}
@@ -12,44 +9,17 @@ use Rattle.mo_types.specs.Spelling.{padded, Then, IsString}
 use Rattle.mo_types.specs.Header.{IsByte, IsEach, IsList, IsField, IsMethod, IsTableRef, IsWithin, RisingIds, RisingNames}
 use Rattle.candid_header.specs.declared.fault.Fault.{Fault}
 use Rattle.candid_header.specs.declared.fault.Fault.TheVariants.{BadTable, Short}
-use Rattle.candid_header.specs.Reading.{◌>>=◌, Reading, many, list_at, u32_at, split_at, string_at}
+use Rattle.candid_header.specs.Reading.{Reading, many, list_at, u32_at, string_at}
 use Rattle.candid_header.specs.Table.{ref_item, no_state, rises, id_at, field, field_at, id_of, name_rises, method_name_at, method, method_at, name_of, ref_at, refs_at, bytes_at}
-use Rattle.candid_header.proofs.Exact.{Front, Exact, okay, refused, refused_ok, ok_is, bind_ok, chosen, same_pair, renamed, both_exact, made_exact, kept_exact}
+use Rattle.exact_reading.proofs.Exact.{Front, Exact, renamed, made_exact, kept_exact}
+use Rattle.candid_header.proofs.Exact.{okay, joins, both_exact}
+use Rattle.exact_reading.proofs.Lists as exact
 use Rattle.candid_header.proofs.Numbers.{IsU32, u32_exact}
 use Rattle.candid_header.proofs.Refs.{IsRefIn, ref_exact}
 
 -- Strings of bytes.
-split_sound : (n : ℕ) (bytes : List ℕ) (r : List ℕ × List ℕ) → split_at n bytes ≡ Ok r → (bytes ≡ r.0 ++ r.1) × (length r.0 ≡ n)
-split_sound n bytes r e = by (chosen (nat_lt (length bytes) n) (refused Short) (okay (take n bytes, drop n bytes)) (okay r) e)
-  where
-    by : ((nat_lt (length bytes) n ≡ true) × (refused Short ≡ okay r)) ⊎ ((nat_lt (length bytes) n ≡ false) × (okay (take n bytes, drop n bytes) ≡ okay r)) → (bytes ≡ r.0 ++ r.1) × (length r.0 ≡ n)
-    by (inl h) = absurd (refused_ok Short r h.1)
-    by (inr h) = subst (λ z. (bytes ≡ z.0 ++ z.1) × (length z.0 ≡ n)) (ok_is _ r h.1) (sym (take-append-drop n bytes), length-take-le n bytes (ltb-false (length bytes) n h.0))
-
-split_complete : (front rest : List ℕ) → split_at (length front) (front ++ rest) ≡ Ok (front, rest)
-split_complete front rest =
-    let le : length front ≤ length (front ++ rest) = omega (arith, length-append front rest) in
-    ap (λ b. cond b (Err Short) (Ok (take (length front) (front ++ rest), drop (length front) (front ++ rest)))) (le-ltb (length (front ++ rest)) (length front) le)
-    ∙ ap (λ t. Ok (t, drop (length front) (front ++ rest))) (take-append_seam front rest)
-    ∙ ap (λ d. Ok (front, d)) (drop-append_seam front rest)
-
 pub string_exact : (wide : Fault) → Exact (IsString padded) (string_at wide)
-unfolding string_at
-string_exact wide = record {
-  sound = λ bytes r e.
-      let s = bind_ok (u32_at wide bytes) _ r e in
-      let t = split_sound s.0.0 s.0.1 r s.2 in
-      let a = (u32_exact wide).sound bytes s.0 s.1 in
-      record {
-        front = a.front ++ r.0;
-        split = a.split ∙ ap (λ l. a.front ++ l) t.0 ∙ sym (append_assoc a.front r.0 r.1);
-        spells = record { front = a.front; back = r.0; whole = refl; first = subst (λ n. IsU32 n a.front) (sym t.1) a.spells; second = refl };
-      };
-  complete = λ x front rest h.
-      let e : front ++ rest ≡ h.front ++ (x ++ rest) = ap (λ l. l ++ rest) (h.whole ∙ ap (λ l. h.front ++ l) h.second) ∙ append_assoc h.front x rest in
-      let a : u32_at wide (front ++ rest) ≡ Ok (length x, x ++ rest) = ap (u32_at wide) e ∙ (u32_exact wide).complete (length x) h.front (x ++ rest) h.first in
-      ap (λ (s : Result (ℕ × List ℕ) Fault). s >>= λ n. split_at n.0 n.1) a ∙ split_complete x rest;
-}
+string_exact wide = exact.string_exact Short wide (IsString padded) (λ x. joins (IsU32 (length x)) (λ b. b ≡ x))
 
 -- Bytes one by one are the bytes.
 each_byte : (xs l : List ℕ) → IsEach IsByte xs l → l ≡ xs
@@ -69,51 +39,20 @@ bytes_exact =
 
 -- Each item in the light of the one before it.
 abbrev pub Linked : {S A : Type 0} → (Option S → A → Type 0) → (A → Option S) → Option S → List A → Type 0
-Linked R after s [] = Unit {0}
-Linked R after s (x ∷ xs) = R s x × Linked R after (after x) xs
+Linked R after s xs = exact.Linked R (λ _ a. after a) s xs
+
+each : {A : Type 0} (P : A → List ℕ → Type 0) → exact.Each P (IsEach P)
+each P = record { none = refl; nothing = λ l h. h; some = λ x xs. joins (P x) (IsEach P xs) }
 
 module _ {S A : Type 0} (item : Option S → Reading A) (after : A → Option S) (P : A → List ℕ → Type 0) (R : Option S → A → Type 0) (ep : (s : Option S) → Exact (λ x b. P x b × R s x) (item s)) where
-  abbrev IsItems : ℕ → Option S → List A → List ℕ → Type 0
-  IsItems n s xs l = IsEach P xs l × Linked R after s xs × (length xs ≡ n)
-
   pub many_sound : (n : ℕ) (s : Option S) (bytes : List ℕ) (r : List A × List ℕ) → many item after n s bytes ≡ okay r → Front (λ xs l. IsEach P xs l × Linked R after s xs × (length xs ≡ n)) bytes r.0 r.1
-  many_sound zero s bytes r e = same_pair (IsItems zero s) bytes ([], bytes) r e (record { front = []; split = refl; spells = (refl, tt, refl) })
-  many_sound (suc n) s bytes r e =
-      let x = bind_ok (item s bytes) _ r e in
-      let t = bind_ok (many item after n (after x.0.0) x.0.1) _ r x.2 in
-      let a = (ep s).sound bytes x.0 x.1 in
-      let b = many_sound n (after x.0.0) x.0.1 t.0 t.1 in
-      same_pair (IsItems (suc n) s) bytes (x.0.0 ∷ t.0.0, t.0.1) r t.2 (record {
-        front = a.front ++ b.front;
-        split = a.split ∙ ap (λ l. a.front ++ l) b.split ∙ sym (append_assoc a.front b.front t.0.1);
-        spells = (record { front = a.front; back = b.front; whole = refl; first = a.spells.0; second = b.spells.0 }, (a.spells.1, b.spells.1), ap suc b.spells.2);
-      })
+  many_sound n s bytes r e = exact.many_sound Short BadTable item (λ _ a. after a) P (IsEach P) R (each P) ep n s bytes r e
 
   pub many_complete : (xs : List A) (s : Option S) (front rest : List ℕ) → IsEach P xs front → Linked R after s xs → many item after (length xs) s (front ++ rest) ≡ Ok (xs, rest)
-  many_complete [] s front rest h k = ap (λ l. Ok ([], l ++ rest)) h
-  many_complete (x ∷ xs) s front rest h k =
-      let e : front ++ rest ≡ h.front ++ (h.back ++ rest) = ap (λ l. l ++ rest) h.whole ∙ append_assoc h.front h.back rest in
-      let a : item s (front ++ rest) ≡ Ok (x, h.back ++ rest) = ap (item s) e ∙ (ep s).complete x h.front (h.back ++ rest) (h.first, k.0) in
-      ap (λ (t : Result (A × List ℕ) Fault). t >>= λ x. many item after (length xs) (after x.0) x.1 >>= λ xs. Ok (x.0 ∷ xs.0, xs.1)) a
-      ∙ ap (λ (t : Result (List A × List ℕ) Fault). t >>= λ xs. Ok (x ∷ xs.0, xs.1)) (many_complete xs (after x) h.back rest h.second k.1)
+  many_complete xs s front rest h k = exact.many_complete Short BadTable item (λ _ a. after a) P (IsEach P) R (each P) ep xs s front rest h k
 
   pub list_exact : Exact (λ xs b. IsList padded P xs b × Linked R after None xs) (list_at item after)
-  list_exact = record {
-    sound = λ bytes r e.
-        let s = bind_ok (u32_at BadTable bytes) _ r e in
-        let a = (u32_exact BadTable).sound bytes s.0 s.1 in
-        let b = many_sound s.0.0 None s.0.1 r s.2 in
-        record {
-          front = a.front ++ b.front;
-          split = a.split ∙ ap (λ l. a.front ++ l) b.split ∙ sym (append_assoc a.front b.front r.1);
-          spells = (record { front = a.front; back = b.front; whole = refl; first = subst (λ n. IsU32 n a.front) (sym b.spells.2) a.spells; second = b.spells.0 }, b.spells.1);
-        };
-    complete = λ x front rest k.
-        let h = k.0 in
-        let e : front ++ rest ≡ h.front ++ (h.back ++ rest) = ap (λ l. l ++ rest) h.whole ∙ append_assoc h.front h.back rest in
-        let a : u32_at BadTable (front ++ rest) ≡ Ok (length x, h.back ++ rest) = ap (u32_at BadTable) e ∙ (u32_exact BadTable).complete (length x) h.front (h.back ++ rest) h.first in
-        ap (λ (s : Result (ℕ × List ℕ) Fault). s >>= λ n. many item after n.0 None n.1) a ∙ many_complete x None h.back rest h.second k.1;
-  }
+  list_exact = exact.list_exact Short BadTable item (λ _ a. after a) P (IsEach P) R (each P) ep (IsList padded P) None (λ xs. joins (IsU32 (length xs)) (IsEach P xs))
 
 -- Types.
 abbrev IsIn : ℕ → Option ℕ → TableRef → Type 0

@@ -13,9 +13,11 @@ use Rattle.mo_types.specs.Spelling.{padded}
 use Rattle.mo_types.specs.Header.{IsTableRef, IsWithin}
 use Rattle.candid_header.specs.declared.fault.Fault.{Fault}
 use Rattle.candid_header.specs.declared.fault.Fault.TheVariants.{BadTable}
-use Rattle.candid_header.specs.Reading.{◌>>=◌, s33_at}
+use Rattle.exact_reading.specs.Reading.{◌>>=◌}
+use Rattle.candid_header.specs.Reading.{s33_at}
 use Rattle.candid_header.specs.Table.{number_of, number_at, ref_by, ref_at}
-use Rattle.candid_header.proofs.Exact.{Front, Exact, okay, bind_ok, not_ok, same_pair, eq_is}
+use Rattle.exact_reading.proofs.Exact.{Front, Exact, bind_ok, not_ok, same_pair, eq_is}
+use Rattle.candid_header.proofs.Exact.{okay}
 use Rattle.candid_header.proofs.Numbers.{IsS33, s33_exact}
 
 some_is : {x y : Plain} → Some x ≡ Some y → x ≡ y

@@ -1,37 +1,22 @@
 -- Whole headers are read exactly.
-use Rattle.std.proofs.Common.{◌≡◌, ℕ, Bool, true, false, List, [], ◌∷◌, ◌++◌, length, Result, Ok, Err, refl, sym, ap, ◌∙◌, append_assoc}
-use Rattle.std.specs.Prelude.{nat_eq, ◌&&◌, IfOk}
+use Rattle.std.proofs.Common.{◌≡◌, ℕ, List, ◌++◌, length, Result, Ok, Err, refl, sym, ap, ◌∙◌, append_assoc}
+use Rattle.std.specs.Prelude.{IfOk}
 use Rattle.mo_types.specs.declared.wire.Wire.{Wire}
 use Rattle.mo_types.specs.declared.wire.TableRef.{TableRef}
 use Rattle.mo_types.specs.Header.{magic}
 use Rattle.candid_header.specs.declared.fault.Fault.{Fault}
-use Rattle.candid_header.specs.declared.fault.Fault.TheVariants.{NotDidl}
-use Rattle.candid_header.specs.declared.fault.Stop.{Stop}
-use Rattle.candid_header.specs.declared.fault.Stop.TheVariants as stop
+use Rattle.candid_header.specs.declared.fault.Fault.TheVariants.{NotDidl, Short}
+use Rattle.exact_reading.specs.declared.stop.Stop.{Stop}
+use Rattle.exact_reading.specs.declared.stop.Stop.TheVariants as stop
 use Rattle.candid_header.specs.declared.header.Header.{Header}
-use Rattle.candid_header.specs.Reading.{◌>>=◌, Gives}
+use Rattle.exact_reading.specs.Reading.{◌>>=◌, Gives}
 use Rattle.candid_header.specs.Table.{refs_at, table_at}
 use Rattle.candid_header.specs.Header.{magic_at, header, header_at, IsHead, Reads, Finds}
-use Rattle.candid_header.proofs.Exact.{Exact, okay, ok_is, bind_ok, test_ok, same_pair, eq_is}
+use Rattle.exact_reading.proofs.Exact.{Exact, ok_is, bind_ok, same_pair}
+use Rattle.exact_reading.proofs.Prefix.{prefix_sound, prefix_complete}
+use Rattle.candid_header.proofs.Exact.{okay}
 use Rattle.candid_header.proofs.Lists.{refs_exact}
 use Rattle.candid_header.proofs.Entries.{table_exact}
-
-split_and : (a b : Bool) → (a && b) ≡ true → (a ≡ true) × (b ≡ true)
-split_and true true e = (refl, refl)
-split_and true false e = cc
-split_and false b e = cc
-
-magic_sound : (bytes rest : List ℕ) → magic_at bytes ≡ Ok rest → bytes ≡ magic ++ rest
-magic_sound [] rest e = cc
-magic_sound (a ∷ []) rest e = cc
-magic_sound (a ∷ b ∷ []) rest e = cc
-magic_sound (a ∷ b ∷ c ∷ []) rest e = cc
-magic_sound (a ∷ b ∷ c ∷ d ∷ tail) rest e =
-    let t = test_ok (nat_eq a 0x44 && (nat_eq b 0x49 && (nat_eq c 0x44 && nat_eq d 0x4c))) tail rest NotDidl e in
-    let x = split_and (nat_eq a 0x44) (nat_eq b 0x49 && (nat_eq c 0x44 && nat_eq d 0x4c)) t.0 in
-    let y = split_and (nat_eq b 0x49) (nat_eq c 0x44 && nat_eq d 0x4c) x.1 in
-    let z = split_and (nat_eq c 0x44) (nat_eq d 0x4c) y.1 in
-    ap (λ k. k ∷ b ∷ c ∷ d ∷ tail) (eq_is a 0x44 x.0) ∙ ap (λ k. 0x44 ∷ k ∷ c ∷ d ∷ tail) (eq_is b 0x49 y.0) ∙ ap (λ k. 0x44 ∷ 0x49 ∷ k ∷ d ∷ tail) (eq_is c 0x44 z.0) ∙ ap (λ k. 0x44 ∷ 0x49 ∷ 0x44 ∷ k ∷ tail) (eq_is d 0x4c z.1) ∙ ap (λ l. magic ++ l) t.1
 
 pub header_exact : Exact IsHead header_at
 unfolding header_at
@@ -44,7 +29,7 @@ header_exact = record {
       let y = (refs_exact (length t.0.0)).sound t.0.1 a.0 a.1 in
       same_pair IsHead bytes (header t.0.0 a.0.0, a.0.1) r a.2 (record {
         front = magic ++ (x.front ++ y.front);
-        split = magic_sound bytes m.0 m.1 ∙ ap (λ l. magic ++ l) (x.split ∙ ap (λ l. x.front ++ l) y.split ∙ sym (append_assoc x.front y.front a.0.1)) ∙ sym (append_assoc magic (x.front ++ y.front) a.0.1);
+        split = prefix_sound Short NotDidl magic bytes m.0 m.1 ∙ ap (λ l. magic ++ l) (x.split ∙ ap (λ l. x.front ++ l) y.split ∙ sym (append_assoc x.front y.front a.0.1)) ∙ sym (append_assoc magic (x.front ++ y.front) a.0.1);
         spells = record {
           few = x.spells.1;
           well_formed = record { sound = x.spells.2; within = y.spells.1 };
@@ -58,21 +43,22 @@ header_exact = record {
       let t : table_at (u.front ++ (u.back ++ rest)) ≡ Ok (h.table, u.back ++ rest) = table_exact.complete h.table u.front (u.back ++ rest) (u.first, k.few, k.well_formed.sound) in
       let a : refs_at (length h.table) (u.back ++ rest) ≡ Ok (h.arguments, rest) = (refs_exact (length h.table)).complete h.arguments u.back rest (u.second, k.well_formed.within) in
       ap (λ l. magic_at l >>= λ rest. table_at rest >>= λ t. refs_at (length t.0) t.1 >>= λ r. Ok (header t.0 r.0, r.1)) e
+      ∙ ap (λ (s : Result (List ℕ) Fault). s >>= λ rest. table_at rest >>= λ t. refs_at (length t.0) t.1 >>= λ r. Ok (header t.0 r.0, r.1)) (prefix_complete Short NotDidl magic (u.front ++ (u.back ++ rest)))
       ∙ ap (λ (s : Result (List (Wire TableRef) × List ℕ) Fault). s >>= λ t. refs_at (length t.0) t.1 >>= λ r. Ok (header t.0 r.0, r.1)) t
       ∙ ap (λ (s : Result (List TableRef × List ℕ) Fault). s >>= λ r. Ok (header h.table r.0, r.1)) a;
 }
 
-pub found_is : {X : Type 0} (view : X → Header × List ℕ) (r : Result X Stop) (bytes : List ℕ) → Gives view r (header_at bytes) → IfOk r (λ x. Reads (view x).0 bytes (view x).1)
+pub found_is : {X : Type 0} (view : X → Header × List ℕ) (r : Result X (Stop Fault)) (bytes : List ℕ) → Gives view r (header_at bytes) → IfOk r (λ x. Reads (view x).0 bytes (view x).1)
 found_is view (Ok x) bytes h = let a = header_exact.sound bytes (view x) h in record { front = a.front; whole = a.split; head = a.spells }
 found_is view (Err e) bytes h = tt
 
 differ : {A : Type 0} (f : Fault) (x : A) (r : Result A Fault) → r ≡ Err f → r ≡ okay x → ⊥
 differ f x r e k = cc
 
-pub only_is : {X : Type 0} (view : X → Header × List ℕ) (r : Result X Stop) (bytes : List ℕ) → Gives view r (header_at bytes) → (h : Header) (rest : List ℕ) → Reads h bytes rest → Finds view r h rest
+pub only_is : {X : Type 0} (view : X → Header × List ℕ) (r : Result X (Stop Fault)) (bytes : List ℕ) → Gives view r (header_at bytes) → (h : Header) (rest : List ℕ) → Reads h bytes rest → Finds view r h rest
 only_is view r bytes g h rest k = by r g (ap header_at k.whole ∙ header_exact.complete h k.front rest k.head)
   where
-    by : (r : Result _ Stop) → Gives view r (header_at bytes) → header_at bytes ≡ Ok (h, rest) → Finds view r h rest
+    by : (r : Result _ (Stop Fault)) → Gives view r (header_at bytes) → header_at bytes ≡ Ok (h, rest) → Finds view r h rest
     by (Ok x) g e = ok_is (view x) (h, rest) (sym g ∙ e)
     by (Err stop.Memory) g e = tt
     by (Err (stop.Fault f)) g e = absurd (differ f (h, rest) (header_at bytes) g e)

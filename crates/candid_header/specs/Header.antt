@@ -1,21 +1,22 @@
 -- Reading whole headers.
-use Rattle.std.specs.Prelude.{◌≡◌, ℕ, ◌≤◌, List, ◌∷◌, ◌++◌, ◌&&◌, length, Result, Ok, Err, nat_eq, if◌then◌else◌}
+use Rattle.std.specs.Prelude.{◌≡◌, ℕ, ◌≤◌, List, ◌++◌, length, Result, Ok, Err}
 use Rattle.mo_types.specs.declared.wire.Wire.{Wire}
 use Rattle.mo_types.specs.declared.wire.TableRef.{TableRef}
 use Rattle.mo_types.specs.Spelling.{padded}
-use Rattle.mo_types.specs.Header.{IsHeader, IsTableRef, IsTable}
+use Rattle.mo_types.specs.Header.{magic, IsHeader, IsTableRef, IsTable}
 use Rattle.candid_header.specs.declared.fault.Fault.{Fault}
-use Rattle.candid_header.specs.declared.fault.Fault.TheVariants.{NotDidl}
-use Rattle.candid_header.specs.declared.fault.Stop.{Stop}
-use Rattle.candid_header.specs.declared.fault.Stop.TheVariants as stop
+use Rattle.candid_header.specs.declared.fault.Fault.TheVariants.{NotDidl, Short}
+use Rattle.exact_reading.specs.declared.stop.Stop.{Stop}
+use Rattle.exact_reading.specs.declared.stop.Stop.TheVariants as stop
 use Rattle.candid_header.specs.declared.header.Header.{Header}
-use Rattle.candid_header.specs.Reading.{◌>>=◌, Reading}
+use Rattle.exact_reading.specs.Reading.{◌>>=◌}
+use Rattle.exact_reading.specs.Prefix.{prefix_at}
+use Rattle.candid_header.specs.Reading.{Reading}
 use Rattle.candid_header.specs.Table.{refs_at, table_at}
 
--- the first four bytes
+-- What comes after the first four bytes. Fewer are short where they begin as these do, and others are of no message.
 abbrev pub magic_at : List ℕ → Result (List ℕ) Fault
-magic_at (a ∷ b ∷ c ∷ d ∷ rest) = if nat_eq a 0x44 && (nat_eq b 0x49 && (nat_eq c 0x44 && nat_eq d 0x4c)) then Ok rest else Err NotDidl
-magic_at _ = Err NotDidl
+magic_at bytes = prefix_at Short NotDidl magic bytes
 
 abbrev pub header : List (Wire TableRef) → List TableRef → Header
 header table args = record { table = table; arguments = args }
@@ -36,7 +37,7 @@ pub record Reads (h : Header) (bytes rest : List ℕ) : Type 0 where
   pub head : IsHead h front
 
 -- that answer, or memory ran out
-abbrev pub Finds : {X : Type 0} → (X → Header × List ℕ) → Result X Stop → Header → List ℕ → Type 0
+abbrev pub Finds : {X : Type 0} → (X → Header × List ℕ) → Result X (Stop Fault) → Header → List ℕ → Type 0
 Finds view (Ok x) h rest = view x ≡ (h, rest)
 Finds view (Err stop.Memory) h rest = Unit {0}
 Finds view (Err (stop.Fault f)) h rest = ⊥

@@ -12,7 +12,8 @@ use Rattle.mo_types.specs.Wire.{plain_of_code, name_before}
 use Rattle.mo_types.specs.Heads.{map_option}
 use Rattle.candid_header.specs.declared.fault.Fault.{Fault}
 use Rattle.candid_header.specs.declared.fault.Fault.TheVariants.{Short, BadTable}
-use Rattle.candid_header.specs.Reading.{◌>>=◌, Reading, made, both, kept, first, many, list_at, u32_at, s33_at, string_at}
+use Rattle.exact_reading.specs.Reading.{◌>>=◌, made, both, kept}
+use Rattle.candid_header.specs.Reading.{Reading, first, many, list_at, u32_at, s33_at, string_at}
 
 -- the number of an entry, of so many
 abbrev pub number_of : ℕ → ℤ → Result ℕ Fault

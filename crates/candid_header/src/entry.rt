@@ -1,6 +1,6 @@
 //! Entries of the table.
 ghost use Rattle.std.specs.Prelude.{◌≡◌};
-ghost use Rattle.candid_header.specs.Reading.{Gives};
+ghost use Rattle.exact_reading.specs.Reading.{Gives};
 ghost use Rattle.candid_header.specs.Table.{func_at, entry_by, entry_at};
 
 use crate::fault::{Fault, Stop};

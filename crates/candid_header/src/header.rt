@@ -2,7 +2,7 @@
 ghost use Rattle.std.specs.Prelude.{◌≡◌, ℕ, List, ◌++◌, IfOk, length};
 ghost use Rattle.mo_types.specs.declared.wire.Wire.{Wire};
 ghost use Rattle.mo_types.specs.declared.wire.TableRef.{TableRef};
-ghost use Rattle.candid_header.specs.Reading.{Tells, Gives};
+ghost use Rattle.exact_reading.specs.Reading.{Tells, Gives};
 ghost use Rattle.candid_header.specs.Header.{magic_at, header_at, Reads, Finds};
 
 use crate::fault::{Fault, Stop};
@@ -21,12 +21,13 @@ pub struct Header {
     pub arguments: Sequence<TableRef>,
 }
 
-/// What comes after the first four bytes, `DIDL`.
+/// What comes after the first four bytes, `DIDL`. Fewer that begin so are short.
 fn after_magic(bytes: &[u8]) -> Result<&[u8], Fault>
     ensures { Tells (λ x. x.now) result (magic_at bytes.now) }
 {
     match bytes {
         [0x44, 0x49, 0x44, 0x4c, rest @ ..] => Ok(rest),
+        [] | [0x44] | [0x44, 0x49] | [0x44, 0x49, 0x44] => Err(Fault::Short),
         _ => Err(Fault::NotDidl),
     }
 }

@@ -1,7 +1,8 @@
 //! Lists of a header: so much memory is taken as was read, whatever their count says.
 ghost use Rattle.std.specs.Prelude.{◌≡◌, None};
 ghost use Rattle.mo_types.specs.Wire.{name_before};
-ghost use Rattle.candid_header.specs.Reading.{Tells, Gives, many, list_at};
+ghost use Rattle.exact_reading.specs.Reading.{Tells, Gives};
+ghost use Rattle.candid_header.specs.Reading.{many, list_at};
 ghost use Rattle.candid_header.specs.Table.{ref_item, no_state, field_at, id_of, id_at, rises, method_at, name_of, last_name, name_rises, method_name_at, bytes_at};
 
 use crate::fault::{Fault, Stop};
@@ -192,6 +193,5 @@ pub fn read_methods(
 pub fn read_bytes(alloc: Global, bytes: &[u8]) -> Result<(Bytes, &[u8]), Stop>
     ensures { Gives (λ x. (x.0, x.1.now)) result (bytes_at bytes.now) }
 {
-    let (slice, rest) = read_slice(Fault::BadTable, bytes)?;
-    Ok((Bytes::from_slice(alloc, slice)?, rest))
+    exact_reading::read_bytes(alloc, Fault::Short, Fault::BadTable, bytes)
 }

@@ -1,6 +1,6 @@
 //! References to types.
 ghost use Rattle.std.specs.Prelude.{◌≡◌};
-ghost use Rattle.candid_header.specs.Reading.{Tells, Gives};
+ghost use Rattle.exact_reading.specs.Reading.{Tells, Gives};
 ghost use Rattle.candid_header.specs.Table.{number_of, number_at, ref_at};
 
 use crate::fault::Fault;

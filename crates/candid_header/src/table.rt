@@ -1,7 +1,8 @@
 //! The table of types.
 ghost use Rattle.std.specs.Prelude.{◌≡◌, None, ◌<◌, length, slice_get};
 ghost use Rattle.mo_types.specs.Heads.{map_option};
-ghost use Rattle.candid_header.specs.Reading.{Tells, Gives, many};
+ghost use Rattle.exact_reading.specs.Reading.{Tells, Gives};
+ghost use Rattle.candid_header.specs.Reading.{many};
 ghost use Rattle.candid_header.specs.Table.{entry_item, no_state, is_func, is_func_at, methods_of, have_functions, entries_at, are_functions, table_at};
 
 use crate::entry::read_entry;

@@ -17,7 +17,7 @@ use Rattle.mo_types.specs.Spelling.{padded, IsString, IsWirePart}
 use Rattle.candid_header.specs.declared.fault.Fault.{Fault}
 use Rattle.candid_header.specs.declared.fault.Fault.TheVariants.{BadValue}
 use Rattle.candid_header.specs.Reading.{string_at}
-use Rattle.candid_header.proofs.Exact.{ok_is}
+use Rattle.exact_reading.proofs.Exact.{ok_is}
 use Rattle.candid_header.proofs.Lists.{string_exact}
 use Rattle.candid_read.specs.Parts.{part_by}
 use Rattle.candid_read.specs.Whole.{IsAllowed}

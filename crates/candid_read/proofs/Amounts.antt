@@ -12,10 +12,12 @@ use Rattle.mo_types.specs.declared.wire.Plain.{Plain}
 use Rattle.mo_types.specs.declared.wire.Plain.TheVariants as plain
 use Rattle.mo_types.specs.Spelling.{padded, low_first, as_bytes, IsFixed, IsPlainPart}
 use Rattle.candid_header.specs.declared.fault.Fault.TheVariants.{NumberLimit}
-use Rattle.candid_header.specs.Reading.{Reading, kept, is_between}
-use Rattle.candid_header.proofs.Exact.{Front, Exact, okay, same_pair, made_sound, made_complete, kept_exact}
+use Rattle.candid_header.specs.Reading.{Reading}
+use Rattle.exact_reading.specs.Reading.{kept, is_between}
+use Rattle.exact_reading.proofs.Exact.{Front, Exact, same_pair, made_sound, made_complete, kept_exact}
+use Rattle.candid_header.proofs.Exact.{okay}
 use Rattle.candid_read.specs.Parts.{natural, integer, u70_at, s70_at, nat_at, int_at, low_at, signed, unsigned_at, signed_at}
-use Rattle.candid_header.proofs.Numbers.{between_true, true_between}
+use Rattle.exact_reading.proofs.Numbers.{between_true, true_between}
 use Rattle.candid_read.proofs.Digits.{IsU70, u70_exact, IsS70, s70_exact}
 use Rattle.candid_read.proofs.Low.{IsLow, low_exact}
 

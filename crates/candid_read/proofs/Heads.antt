@@ -12,8 +12,10 @@ use Rattle.mo_types.specs.declared.wire.Wire.{Wire}
 use Rattle.mo_types.specs.declared.wire.Wire.TheVariants.{Simple, Opt, Vec, Record, Variant, Func, Service}
 use Rattle.mo_types.specs.Spelling.{padded, IsPrincipal, IsWirePart}
 use Rattle.candid_header.specs.declared.fault.Fault.TheVariants.{BadValue, TooManyEmpty}
-use Rattle.candid_header.specs.Reading.{Reading, kept, first, u32_at}
-use Rattle.candid_header.proofs.Exact.{Front, Exact, okay, not_ok, same_pair, made_sound, made_complete, kept_exact}
+use Rattle.candid_header.specs.Reading.{Reading, first, u32_at}
+use Rattle.exact_reading.specs.Reading.{kept}
+use Rattle.exact_reading.proofs.Exact.{Front, Exact, not_ok, same_pair, made_sound, made_complete, kept_exact}
+use Rattle.candid_header.proofs.Exact.{okay}
 use Rattle.candid_header.proofs.Numbers.{IsU32, u32_exact}
 use Rattle.candid_read.specs.Parts.{flag_by, option_by, principal_at, plain_at, is_marked, is_allowed, vector_at, tag_at, part_by}
 use Rattle.candid_read.specs.Whole.{IsAllowed}

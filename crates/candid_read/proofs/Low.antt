@@ -5,8 +5,9 @@ use Rattle.std.proofs.lemmas.Nat.{mod-mul-add, div-mul-add, div-add-mod'}
 use Rattle.mo_types.specs.Spelling.{low_first}
 use Rattle.candid_header.specs.declared.fault.Fault.{Fault}
 use Rattle.candid_header.specs.declared.fault.Fault.TheVariants.{BadValue}
-use Rattle.candid_header.specs.Reading.{◌>>=◌, made}
-use Rattle.candid_header.proofs.Exact.{Front, Exact, okay, bind_ok, if_ok, not_ok, same_pair}
+use Rattle.exact_reading.specs.Reading.{◌>>=◌, made}
+use Rattle.exact_reading.proofs.Exact.{Front, Exact, bind_ok, if_ok, not_ok, same_pair}
+use Rattle.candid_header.proofs.Exact.{okay}
 use Rattle.candid_read.specs.Parts.{low_at}
 
 -- 256 to the power of so few fits in seven bytes.

@@ -25,8 +25,10 @@ use Rattle.mo_types.specs.Wire.{numbered, entry_of, tag_of, plain_number, wire, 
 use Rattle.mo_types.specs.Values.{by_label, insert_field, IsScalar, IsPartOf}
 use Rattle.mo_types.specs.Spelling.{padded, IsString, IsWirePart, IsPlainPart}
 use Rattle.candid_header.specs.declared.fault.Fault.TheVariants.{BadValue}
-use Rattle.candid_header.specs.Reading.{Reading, kept, string_at}
-use Rattle.candid_header.proofs.Exact.{Exact, okay, not_ok, made_sound, made_complete, kept_exact, renamed}
+use Rattle.candid_header.specs.Reading.{Reading, string_at}
+use Rattle.exact_reading.specs.Reading.{kept}
+use Rattle.exact_reading.proofs.Exact.{Exact, not_ok, made_sound, made_complete, kept_exact, renamed}
+use Rattle.candid_header.proofs.Exact.{okay}
 use Rattle.candid_header.proofs.Lists.{string_exact}
 use Rattle.candid_forms.specs.Forms.{IsSpelledBy, IsPartAt}
 use Rattle.candid_read.specs.Parts.{is_scalar, char_at, are_bytes, blob_at, unit_at, low_at, node_part, ref_part}

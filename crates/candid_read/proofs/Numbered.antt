@@ -12,10 +12,11 @@ use Rattle.mo_types.specs.Wire.{refs, wire}
 use Rattle.mo_types.specs.Values.{Values, Nil, Value, arity, flat, tree}
 use Rattle.mo_types.specs.Spelling.{padded, FewEmpty}
 use Rattle.candid_header.specs.declared.fault.Fault.TheVariants.{BadValue}
-use Rattle.candid_header.specs.declared.fault.Stop.{Stop}
-use Rattle.candid_header.specs.declared.fault.Stop.TheVariants as stop
+use Rattle.candid_header.specs.declared.fault.Fault.{Fault}
+use Rattle.exact_reading.specs.declared.stop.Stop.{Stop}
+use Rattle.exact_reading.specs.declared.stop.Stop.TheVariants as stop
 use Rattle.candid_header.specs.Reading.{Reading}
-use Rattle.candid_header.proofs.Exact.{Exact, not_ok}
+use Rattle.exact_reading.proofs.Exact.{Exact, not_ok}
 use Rattle.candid_types.specs.Shapes.{ref_of, shape_at}
 use Rattle.candid_types.specs.Inside.{times, inside_by, below}
 use Rattle.candid_forms.specs.Forms.{FormsBy, IsPartAt, Forms}
@@ -136,20 +137,20 @@ module _ (slots : List Slot) (known : Known) (is : IsKnown slots known) where
         to_found ts v bytes
         (numbers_from padded (FewEmpty (wire (head_at slots))) slots known.shapes is.table ts v bytes (subst (λ (rs : List (Ref TypeId)). Forms padded (FewEmpty (wire (head_at slots))) (head_at slots) rs v bytes) (sym these) h))
 
-    took : {X : Type 0} (list : X → List Datum) (more : X → List ℕ) (r : Result X Stop) (bytes : List ℕ) → IfOk r (λ x. Takes (Found ts (tree (list x))) bytes (more x)) → IfOk r (λ x. Takes (Read slots ids (tree (list x))) bytes (more x))
+    took : {X : Type 0} (list : X → List Datum) (more : X → List ℕ) (r : Result X (Stop Fault)) (bytes : List ℕ) → IfOk r (λ x. Takes (Found ts (tree (list x))) bytes (more x)) → IfOk r (λ x. Takes (Read slots ids (tree (list x))) bytes (more x))
     took list more (Ok x) bytes h = record { front = h.front; whole = h.whole; holds = read_of (tree (list x)) h.front h.holds }
     took list more (Err e) bytes h = tt
 
-    pub found_all : {X : Type 0} (list : X → List Datum) (more : X → List ℕ) (r : Result X Stop) (bytes : List ℕ)
+    pub found_all : {X : Type 0} (list : X → List Datum) (more : X → List ℕ) (r : Result X (Stop Fault)) (bytes : List ℕ)
         → IfOk r (λ x. Reaches (known_part slots known) (below known.shapes) ts (list x) bytes [] (more x)) → IfOk r (λ x. Takes (Read slots ids (tree (list x))) bytes (more x))
     found_all list more r bytes h = took list more r bytes (found_is (known_part slots known) (below known.shapes) Here exact counted list more r ts bytes h)
 
-    pub only_all : {X : Type 0} (list : X → List Datum) (more : X → List ℕ) (r : Result X Stop) (bytes : List ℕ)
+    pub only_all : {X : Type 0} (list : X → List Datum) (more : X → List ℕ) (r : Result X (Stop Fault)) (bytes : List ℕ)
         → IfOk r (λ x. Reaches (known_part slots known) (below known.shapes) ts (list x) bytes [] (more x)) → IfFault r (λ f. Stops (known_part slots known) (below known.shapes) ts bytes f)
         → (v : Values) (front rest : List ℕ) → Read slots ids v front → bytes ≡ front ++ rest → Finds (λ x. (list x, more x)) r (flat v) rest
     only_all list more r bytes ok bad v front rest h e = only_is (known_part slots known) (below known.shapes) Here exact counted list more r ts bytes ok bad v front rest (of_read v front h) e
 
-    pub breaks : {X : Type 0} (r : Result X Stop) (bytes : List ℕ) → IfFault r (λ f. Stops (known_part slots known) (below known.shapes) ts bytes f) → IfFault r (λ f. Breaks slots ids bytes f)
+    pub breaks : {X : Type 0} (r : Result X (Stop Fault)) (bytes : List ℕ) → IfFault r (λ f. Stops (known_part slots known) (below known.shapes) ts bytes f) → IfFault r (λ f. Breaks slots ids bytes f)
     breaks (Ok x) bytes h = tt
     breaks (Err stop.Memory) bytes h = tt
     breaks (Err (stop.Fault f)) bytes h = record { known = known; is = is; types = ts; declared = these; stops = h }
@@ -157,11 +158,11 @@ module _ (slots : List Slot) (known : Known) (is : IsKnown slots known) where
     abbrev Over : List ℕ → List ℕ → Type 0
     Over bytes rest = Passes (known_part slots known) (below known.shapes) ts bytes [] rest
 
-    pub skipped_all : {X : Type 0} (more : X → List ℕ) (r : Result X Stop) (bytes : List ℕ) → IfOk r (λ x. Over bytes (more x)) → IfOk r (λ x. (v : Values) × Takes (Read slots ids v) bytes (more x))
+    pub skipped_all : {X : Type 0} (more : X → List ℕ) (r : Result X (Stop Fault)) (bytes : List ℕ) → IfOk r (λ x. Over bytes (more x)) → IfOk r (λ x. (v : Values) × Takes (Read slots ids v) bytes (more x))
     skipped_all more (Ok x) bytes h = (tree h.parts, found_all {X = List Datum × List ℕ} (λ y. y.0) (λ y. y.1) (Ok (h.parts, more x)) bytes h.reached)
     skipped_all more (Err e) bytes h = tt
 
-    pub leaves_all : {X : Type 0} (more : X → List ℕ) (r : Result X Stop) (bytes : List ℕ) → IfOk r (λ x. Over bytes (more x)) → IfFault r (λ f. Stops (known_part slots known) (below known.shapes) ts bytes f)
+    pub leaves_all : {X : Type 0} (more : X → List ℕ) (r : Result X (Stop Fault)) (bytes : List ℕ) → IfOk r (λ x. Over bytes (more x)) → IfFault r (λ f. Stops (known_part slots known) (below known.shapes) ts bytes f)
         → (v : Values) (front rest : List ℕ) → Read slots ids v front → bytes ≡ front ++ rest → Leaves more r rest
     leaves_all more (Ok x) bytes ok bad v front rest h e = ap (λ (y : List Datum × List ℕ). y.1) (only_all {X = List Datum × List ℕ} (λ y. y.0) (λ y. y.1) (Ok (ok.parts, more x)) bytes ok.reached tt v front rest h e)
     leaves_all more (Err stop.Memory) bytes ok bad v front rest h e = tt

@@ -2,8 +2,9 @@
 use Rattle.std.proofs.Common.{◌≡◌, ℕ, zero, suc, List, [], ◌∷◌, ◌++◌, Some, slice_get, Ok, Err, refl, sym, subst}
 use Rattle.mo_types.specs.declared.datum.Datum.{Datum}
 use Rattle.mo_types.specs.Values.{copies}
-use Rattle.candid_header.specs.declared.fault.Stop.{Stop}
-use Rattle.candid_header.specs.declared.fault.Stop.TheVariants as stop
+use Rattle.candid_header.specs.declared.fault.Fault.{Fault}
+use Rattle.exact_reading.specs.declared.stop.Stop.{Stop}
+use Rattle.exact_reading.specs.declared.stop.Stop.TheVariants as stop
 use Rattle.candid_header.specs.Reading.{Reading}
 use Rattle.candid_read.specs.Whole.{Reaches, Passes, Stops, IfFault}
 
@@ -62,6 +63,6 @@ module _ {B : Type 0} (part_of : B → Reading Datum) (inside : B → Datum → 
   pub over_next : (ts old mid new : List B) (bytes rest after : List ℕ) (t : B) → Over ts bytes old rest → old ≡ t ∷ mid → Over (t ∷ mid) rest new after → Over ts bytes new after
   over_next ts old mid new bytes rest after t a e b = over_then ts (t ∷ mid) new bytes rest after (subst (λ (x : List B). Over ts bytes x rest) e a) b
 
-  pub stops_next : (X : Type 0) (e : Stop) (ts old mid : List B) (bytes rest : List ℕ) (t : B) → Over ts bytes old rest → old ≡ t ∷ mid → IfFault {X = X} (Err e) (λ f. part_of t rest ≡ Err f) → IfFault {X = X} (Err e) (λ f. Stops part_of inside ts bytes f)
+  pub stops_next : (X : Type 0) (e : Stop Fault) (ts old mid : List B) (bytes rest : List ℕ) (t : B) → Over ts bytes old rest → old ≡ t ∷ mid → IfFault {X = X} (Err e) (λ f. part_of t rest ≡ Err f) → IfFault {X = X} (Err e) (λ f. Stops part_of inside ts bytes f)
   stops_next X stop.Memory ts old mid bytes rest t a is h = tt
   stops_next X (stop.Fault f) ts old mid bytes rest t a is h = record { parts = a.parts; next = t; todo = mid; rest = rest; reached = subst (λ (x : List B). Goes ts a.parts bytes x rest) is a.reached; faulty = h }

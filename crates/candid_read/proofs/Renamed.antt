@@ -13,7 +13,7 @@ use Rattle.mo_types.specs.declared.wire.Ref.{Ref}
 use Rattle.mo_types.specs.Graph.{Slot, head_at}
 use Rattle.mo_types.specs.Wire.{map_entry, map_wire, wire}
 use Rattle.mo_types.specs.Spelling.{padded, IsWirePart, EmptyHead, EmptyBy, FewEmpty}
-use Rattle.candid_header.proofs.Exact.{Exact, renamed}
+use Rattle.exact_reading.proofs.Exact.{Exact, renamed}
 use Rattle.candid_types.specs.Shapes.{ref_of, shape_at, IsTableOf}
 use Rattle.candid_read.specs.Parts.{part_by}
 use Rattle.candid_read.specs.Empty.{AreEmpty}

@@ -11,8 +11,10 @@ use Rattle.mo_types.specs.Values.{is_method_name}
 use Rattle.mo_types.specs.Spelling.{Then, padded, IsString, IsPrincipal}
 use Rattle.candid_header.specs.declared.fault.Fault.{Fault}
 use Rattle.candid_header.specs.declared.fault.Fault.TheVariants.{Short, BadValue}
-use Rattle.candid_header.specs.Reading.{◌>>=◌, Reading, kept, both, first, u32_at, split_at, string_at}
-use Rattle.candid_header.proofs.Exact.{Front, Exact, okay, refused, refused_ok, ok_is, bind_ok, chosen, not_ok, same_pair, both_exact, made_exact, made_sound, made_complete, kept_exact}
+use Rattle.exact_reading.specs.Reading.{◌>>=◌, kept, both}
+use Rattle.candid_header.specs.Reading.{Reading, first, u32_at, split_at, string_at}
+use Rattle.exact_reading.proofs.Exact.{Front, Exact, refused, refused_ok, ok_is, bind_ok, chosen, not_ok, same_pair, made_exact, made_sound, made_complete, kept_exact}
+use Rattle.candid_header.proofs.Exact.{okay, both_exact}
 use Rattle.candid_header.proofs.Numbers.{IsU32, u32_exact}
 use Rattle.candid_header.proofs.Lists.{string_exact}
 use Rattle.candid_read.specs.Parts.{flag_by, one_at, text_at, few_bytes_at, principal_at, method_name_at, method_at}

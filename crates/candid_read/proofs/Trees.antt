@@ -6,10 +6,10 @@ use Rattle.mo_types.specs.declared.datum.Datum.{Datum}
 use Rattle.mo_types.specs.Values.{Values, Nil, Value, flat, arity, firsts, after, tree}
 use Rattle.mo_types.specs.Spelling.{Then}
 use Rattle.candid_header.specs.declared.fault.Fault.{Fault}
-use Rattle.candid_header.specs.declared.fault.Stop.{Stop}
-use Rattle.candid_header.specs.declared.fault.Stop.TheVariants as stop
+use Rattle.exact_reading.specs.declared.stop.Stop.{Stop}
+use Rattle.exact_reading.specs.declared.stop.Stop.TheVariants as stop
 use Rattle.candid_header.specs.Reading.{Reading}
-use Rattle.candid_header.proofs.Exact.{Exact}
+use Rattle.exact_reading.proofs.Exact.{Exact}
 use Rattle.candid_forms.specs.Forms.{FormsBy}
 use Rattle.candid_read.specs.Whole.{Reaches, Stops, IfFault, Takes, Finds}
 use Rattle.candid_read.proofs.Reach.{reaches_then}
@@ -128,12 +128,12 @@ module _ {B : Type 0} (part_of : B → Reading Datum) (inside : B → Datum → 
     reads_all ts v bytes front rest h e =
         subst (λ (b : List ℕ). Goes ts (flat v) b [] rest) (sym e) (subst (λ (x : List B). Goes x (flat v) (front ++ rest) [] rest) (append-nil ts) (spelled_reads ts v front [] rest h))
 
-    pub found_is : {X : Type 0} (list : X → List Datum) (more : X → List ℕ) (r : Result X Stop) (ts : List B) (bytes : List ℕ)
+    pub found_is : {X : Type 0} (list : X → List Datum) (more : X → List ℕ) (r : Result X (Stop Fault)) (ts : List B) (bytes : List ℕ)
         → IfOk r (λ x. Goes ts (list x) bytes [] (more x)) → IfOk r (λ x. Takes (Spells ts (tree (list x))) bytes (more x))
     found_is list more (Ok x) ts bytes r = read_spells ts (list x) bytes (more x) r
     found_is list more (Err e) ts bytes r = tt
 
-    pub only_is : {X : Type 0} (list : X → List Datum) (more : X → List ℕ) (r : Result X Stop) (ts : List B) (bytes : List ℕ)
+    pub only_is : {X : Type 0} (list : X → List Datum) (more : X → List ℕ) (r : Result X (Stop Fault)) (ts : List B) (bytes : List ℕ)
         → IfOk r (λ x. Goes ts (list x) bytes [] (more x)) → IfFault r (λ f. Stops part_of inside ts bytes f)
         → (v : Values) (front rest : List ℕ) → Spells ts v front → bytes ≡ front ++ rest → Finds (λ x. (list x, more x)) r (flat v) rest
     only_is list more (Ok x) ts bytes ok bad v front rest h e =

@@ -18,17 +18,19 @@ use Rattle.mo_types.specs.Heads.{is_char, is_blob, is_any}
 use Rattle.mo_types.specs.Values.{is_method_name}
 use Rattle.candid_header.specs.declared.fault.Fault.{Fault}
 use Rattle.candid_header.specs.declared.fault.Fault.TheVariants.{Short, BadValue, NumberLimit, TooManyEmpty}
-use Rattle.candid_header.specs.Reading.{◌>>=◌, Reading, made, both, kept, first, is_between, leb_at, sleb_at, u32_at, split_at, string_at}
+use Rattle.exact_reading.specs.Reading as exact
+use Rattle.exact_reading.specs.Reading.{◌>>=◌, made, both, kept, is_between}
+use Rattle.candid_header.specs.Reading.{Reading, first, u32_at, split_at, string_at}
 use Rattle.candid_types.specs.Shapes.{shape_at, ref_of}
 
 -- ---- numbers
 
 -- a number of 70 bits, which ten bytes hold
-unfoldable pub u70_at : Reading ℕ
-u70_at = kept NumberLimit (λ n. nat_lt n (2 ^ 70)) (leb_at NumberLimit 10)
+abbrev pub u70_at : Reading ℕ
+u70_at = exact.unsigned_at Short NumberLimit 70
 
-unfoldable pub s70_at : Reading ℤ
-s70_at = kept NumberLimit (is_between (negsuc (2 ^ 69 - 1)) (pos (2 ^ 69 - 1))) (sleb_at NumberLimit 10)
+abbrev pub s70_at : Reading ℤ
+s70_at = exact.signed_at Short NumberLimit 70
 
 abbrev pub natural : ℕ → Datum
 natural n = part.Number (pos n)

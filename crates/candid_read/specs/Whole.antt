@@ -6,8 +6,8 @@ use Rattle.mo_types.specs.declared.wire.Wire.{Wire}
 use Rattle.mo_types.specs.declared.wire.Wire.TheVariants.{Simple, Opt, Vec, Record, Variant, Func, Service}
 use Rattle.mo_types.specs.Values.{copies}
 use Rattle.candid_header.specs.declared.fault.Fault.{Fault}
-use Rattle.candid_header.specs.declared.fault.Stop.{Stop}
-use Rattle.candid_header.specs.declared.fault.Stop.TheVariants as stop
+use Rattle.exact_reading.specs.declared.stop.Stop.{Stop}
+use Rattle.exact_reading.specs.declared.stop.Stop.TheVariants as stop
 use Rattle.candid_types.specs.Shapes.{shape_at}
 use Rattle.candid_header.specs.Reading.{Reading}
 use Rattle.candid_types.specs.Inside.{parts_of}
@@ -41,7 +41,7 @@ module _ {B : Type 0} (part_of : B → Reading Datum) (inside : B → Datum → 
     pub reached : Reaches types parts bytes (next ∷ todo) rest
     pub faulty : part_of next rest ≡ Err f
 
-abbrev pub IfFault : {X : Type 0} → Result X Stop → (Fault → Type 0) → Type 0
+abbrev pub IfFault : {X : Type 0} → Result X (Stop Fault) → (Fault → Type 0) → Type 0
 IfFault (Ok x) P = Unit {0}
 IfFault (Err stop.Memory) P = Unit {0}
 IfFault (Err (stop.Fault f)) P = P f
@@ -53,13 +53,13 @@ pub record Takes (P : List ℕ → Type 0) (bytes rest : List ℕ) : Type 0 wher
   pub holds : P front
 
 -- that answer, or memory ran out
-abbrev pub Finds : {X : Type 0} → (X → List Datum × List ℕ) → Result X Stop → List Datum → List ℕ → Type 0
+abbrev pub Finds : {X : Type 0} → (X → List Datum × List ℕ) → Result X (Stop Fault) → List Datum → List ℕ → Type 0
 Finds view (Ok x) ps rest = view x ≡ (ps, rest)
 Finds view (Err stop.Memory) ps rest = Unit {0}
 Finds view (Err (stop.Fault f)) ps rest = ⊥
 
 -- these bytes are left, or memory ran out
-abbrev pub Leaves : {X : Type 0} → (X → List ℕ) → Result X Stop → List ℕ → Type 0
+abbrev pub Leaves : {X : Type 0} → (X → List ℕ) → Result X (Stop Fault) → List ℕ → Type 0
 Leaves more (Ok x) rest = more x ≡ rest
 Leaves more (Err stop.Memory) rest = Unit {0}
 Leaves more (Err (stop.Fault f)) rest = ⊥
@@ -93,7 +93,7 @@ all_types shapes None = []
 all_types shapes (Some g) = goal_types shapes g
 
 -- the first type is taken off, or there is none
-abbrev pub NextIs : Result (Option ℕ) Stop → List ℕ → List ℕ → Type 0
+abbrev pub NextIs : Result (Option ℕ) (Stop Fault) → List ℕ → List ℕ → Type 0
 NextIs (Ok None) old new = old ≡ []
 NextIs (Ok (Some t)) old new = old ≡ t ∷ new
 NextIs (Err stop.Memory) old new = Unit {0}

@@ -1,5 +1,6 @@
 //! Bytes that are 0 or 1.
-ghost use Rattle.candid_header.specs.Reading.{Tells, first};
+ghost use Rattle.exact_reading.specs.Reading.{Tells};
+ghost use Rattle.candid_header.specs.Reading.{first};
 ghost use Rattle.candid_read.specs.Parts.{flag_by, option_by, one_by};
 
 use candid_header::Fault;

@@ -1,44 +1,17 @@
 //! Numbers of values.
 ghost use Rattle.std.specs.Prelude.{◌≡◌, ◌<◌, ◌≤◌, ◌^◌, IfOk};
-ghost use Rattle.candid_header.specs.Reading.{Tells};
-ghost use Rattle.candid_read.specs.Parts.{u70_at, s70_at, nat_at, int_at, char_at, is_scalar, low_at, signed, signed_at, unsigned_at};
+ghost use Rattle.exact_reading.specs.Reading.{Tells};
+ghost use Rattle.candid_read.specs.Parts.{nat_at, int_at, char_at, is_scalar, low_at, signed, signed_at, unsigned_at};
 
 use candid_header::Fault;
-use mo_num::{LebFault, leb_read, sleb_read};
 use mo_types::Datum;
-
-fn read_u70(bytes: &[u8]) -> Result<(u128, &[u8]), Fault>
-    ensures { Tells (λ x. (x.0, x.1.now)) result (u70_at bytes.now) }
-{
-    match leb_read(bytes, 70) {
-        Ok((value, count)) => {
-            let (_, rest) = bytes.split_at(count);
-            Ok((value, rest))
-        }
-        Err(LebFault::Short) => Err(Fault::Short),
-        Err(LebFault::TooWide) => Err(Fault::NumberLimit),
-    }
-}
-
-fn read_s70(bytes: &[u8]) -> Result<(i128, &[u8]), Fault>
-    ensures { Tells (λ x. (x.0, x.1.now)) result (s70_at bytes.now) }
-{
-    match sleb_read(bytes, 70) {
-        Ok((value, count)) => {
-            let (_, rest) = bytes.split_at(count);
-            Ok((value, rest))
-        }
-        Err(LebFault::Short) => Err(Fault::Short),
-        Err(LebFault::TooWide) => Err(Fault::NumberLimit),
-    }
-}
 
 /// A number from 0 to 2^63 - 1, in at most ten bytes.
 #[tactic(auto, unfolding(crate::specs::Parts::nat_at))]
 pub fn read_nat(bytes: &[u8]) -> Result<(Datum, &[u8]), Fault>
     ensures { Tells (λ x. (x.0, x.1.now)) result (nat_at bytes.now) }
 {
-    let (value, rest) = read_u70(bytes)?;
+    let (value, rest) = exact_reading::read_unsigned(Fault::Short, Fault::NumberLimit, 70, bytes)?;
     if value < 1 << 63 {
         Ok((Datum::Number(value as i128), rest))
     } else {
@@ -51,7 +24,7 @@ pub fn read_nat(bytes: &[u8]) -> Result<(Datum, &[u8]), Fault>
 pub fn read_int(bytes: &[u8]) -> Result<(Datum, &[u8]), Fault>
     ensures { Tells (λ x. (x.0, x.1.now)) result (int_at bytes.now) }
 {
-    let (value, rest) = read_s70(bytes)?;
+    let (value, rest) = exact_reading::read_signed(Fault::Short, Fault::NumberLimit, 70, bytes)?;
     if -0x8000_0000_0000_0000 <= value && value <= 0x7fff_ffff_ffff_ffff {
         Ok((Datum::Number(value), rest))
     } else {

@@ -2,7 +2,8 @@
 ghost use Rattle.std.specs.Prelude.{◌≡◌, ◌<◌, ◌≤◌, List};
 ghost use Rattle.mo_types.specs.declared.datum.Datum.{Datum};
 ghost use Rattle.mo_types.specs.Graph.{Slot};
-ghost use Rattle.candid_header.specs.Reading.{Reading, Tells, Gives};
+ghost use Rattle.candid_header.specs.Reading.{Reading};
+ghost use Rattle.exact_reading.specs.Reading.{Tells, Gives};
 ghost use Rattle.candid_types.specs.Shapes.{ref_of, shape_at};
 ghost use Rattle.candid_read.specs.Parts.{is_marked, plain_at, vector_at, tag_at, part_by, node_part, ref_part, part_at};
 

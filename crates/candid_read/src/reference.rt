@@ -3,7 +3,7 @@ ghost use Rattle.std.specs.Prelude.{◌≡◌, ◌&&◌, IfOk, nat_lt, true};
 ghost use Rattle.std.specs.List.{list_all};
 ghost use Rattle.std.specs.Str.{is_utf8};
 ghost use Rattle.mo_types.specs.Values.{is_method_name};
-ghost use Rattle.candid_header.specs.Reading.{Tells, Gives};
+ghost use Rattle.exact_reading.specs.Reading.{Tells, Gives};
 ghost use Rattle.candid_read.specs.Whole.{IfFault};
 ghost use Rattle.candid_read.specs.Parts.{are_bytes, text_at, blob_at, few_bytes_at, principal_at, method_name_at, method_at};
 

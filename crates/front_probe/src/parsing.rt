@@ -1,7 +1,7 @@
 //! Whether a source has a tree, and the tokens of the tree.
 use crate::lexing::token_line;
 use crate::reading::tree_of;
-use mo_syntax::tokens;
+use mo_tokens::tokens;
 use probe_base::Stop;
 use std::alloc::Global;
 

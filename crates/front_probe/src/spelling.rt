@@ -1,6 +1,7 @@
 //! Texts of trees and of tokens, and whether they are read as the tokens that they were made of.
 use crate::reading::{kinds_of, tree_of};
-use mo_syntax::{Kinds, Name, Place, TokenKind, tokens};
+use mo_syntax::{Kinds, Name, Place, TokenKind};
+use mo_tokens::tokens;
 use mo_unparse::{spell, unparse};
 use probe_base::{Stop, put_text};
 use std::alloc::Global;

@@ -7,13 +7,16 @@ use mo_num::{Bytes, Memory};
 use query_module::build_queries;
 use query_source::{SourceFault, read_source};
 use std::alloc::Global;
+use thiserror::Error;
 
 /// Why a source gives no module.
-#[derive(Clone, Copy, Debug, PartialEq, Eq)]
+#[derive(Clone, Copy, Debug, PartialEq, Eq, Error)]
 pub enum CompileFault {
     /// The source is not of the form that is compiled yet.
+    #[error("the source is not of the form that is compiled yet")]
     NotYet,
     /// There was no memory.
+    #[error("there was no memory")]
     Memory,
 }
 

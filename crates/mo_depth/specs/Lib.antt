@@ -1,3 +1,4 @@
 pub mod Depth
 pub mod Nested
+pub mod Rooms
 pub mod Stack

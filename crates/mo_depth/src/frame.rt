@@ -2,7 +2,7 @@
 use mo_syntax::Mark;
 
 /// An open bracket, or the whole text.
-#[derive(Clone, Copy, Debug, PartialEq, Eq)]
+#[derive(Clone, Copy)]
 pub struct Frame {
     /// The mark that closes the bracket. None closes the whole text.
     pub close: Option<Mark>,

@@ -5,7 +5,7 @@ ghost use Rattle.mo_depth.specs.Depth as spec;
 use mo_syntax::{Mark, TokenKind};
 
 /// What a token does to the depth.
-#[derive(Clone, Copy, Debug, PartialEq, Eq)]
+#[derive(Clone, Copy)]
 pub enum Role {
     /// It opens a bracket that this mark closes.
     Opens(Mark),

@@ -2,7 +2,6 @@
 ghost use Rattle.std.specs.Prelude.{◌≡◌, ◌≤◌, OnOk};
 ghost use Rattle.mo_depth.specs.Depth as spec;
 ghost use Rattle.mo_depth.specs.Nested.{standing};
-ghost use Rattle.mo_depth.specs.Stack as stack;
 
 use crate::frame::Frame;
 use crate::nesting::Nesting;
@@ -88,29 +87,6 @@ impl Nesting {
             self.leave();
         } else {
             self.count();
-        }
-    }
-
-    fn drop_inner(&mut self)
-        ensures at { standing self.new ≡ stack.without_inner (standing self.old) }
-        ensures below { self.new.depth ≤ self.old.depth }
-    {
-        if let Some(frame) = self.outer.pop_front() {
-            self.depth = self.depth - self.inner.count - 1;
-            self.inner = frame;
-        }
-    }
-
-    /// Out of each `<` that stands open in the innermost bracket `( [ {`, or in the whole text.
-    pub(crate) fn leave_angles(&mut self)
-        ensures at { standing self.new ≡ stack.outside_angles (standing self.old) }
-        ensures below { self.new.depth ≤ self.old.depth }
-    {
-        for _turn in 0..self.outer.len() {
-            if !closes(&self.inner, Mark::AngleClose) {
-                return;
-            }
-            self.drop_inner();
         }
     }
 

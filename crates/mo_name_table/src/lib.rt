@@ -1,6 +1,8 @@
-//! Lists of names in which a name is found in constant time.
+//! Lists of names, and such in which a name is found in constant time.
 #![tactic(auto)]
 
+mod names;
 mod table;
 
+pub use names::{Names, push_copies, push_copy};
 pub use table::NameTable;

@@ -1,10 +1,11 @@
 //! A list of names with an index.
-ghost use Rattle.std.specs.Prelude.{◌≡◌, ◌++◌, ◌∷◌, ◌-◌, [], List, ℕ, ◌<◌, take, length, IfSome, IsSome, OnOk, OnErr, Some, None, cond};
+ghost use Rattle.std.specs.Prelude.{◌≡◌, ◌++◌, ◌∷◌, ◌-◌, [], List, ℕ, ◌<◌, take, length, IfSome, IsSome, OnOk, OnErr, IfOk, Some, None, cond};
 ghost use Rattle.std.specs.List.{list_any};
 ghost use Rattle.std.specs.Str.{bytes_eq};
 ghost use Rattle.indexmap.specs.IndexMap.{get_by};
 ghost use Rattle.mo_name_table.specs.Places.{last_place, place_at, texts};
 
+use crate::names::Names;
 use indexmap::IndexMap;
 use mo_num::Memory;
 use mo_syntax::Name;
@@ -105,6 +106,15 @@ impl NameTable {
         }
     }
 
+    /// The table of these names.
+    pub fn from_names(alloc: Global, names: Names) -> Result<NameTable, Memory>
+        ensures { IfOk result (λ made. made ≡ texts names) }
+    {
+        let mut table = NameTable::new(alloc);
+        table.append(names)?;
+        Ok(table)
+    }
+
     /// The names in their order.
     pub fn as_slice(&self) -> &[Name]
         ensures { texts result.now ≡ self.now }
@@ -144,6 +154,35 @@ impl NameTable {
         make_room(self.alloc, &mut self.places, &name)?;
         push_both(&mut self.names, &mut self.hidden, name, covered)?;
         keep(&mut self.places, &self.names[place], Some(place));
+        Ok(())
+    }
+
+    /// Adds a copy of a name at the end. After an error the names are as before.
+    pub fn push_copy(&mut self, name: &Name) -> Result<(), Memory>
+        ensures ok { OnOk result (self.new ≡ self.old ++ name.now.bytes ∷ []) }
+        ensures err { OnErr result (self.new ≡ self.old) }
+    {
+        let copy = name.copy(self.alloc)?;
+        self.push(copy)
+    }
+
+    /// Adds copies of names at the end.
+    pub fn push_copies(&mut self, names: &[Name]) -> Result<(), Memory>
+        ensures { OnOk result (self.new ≡ self.old ++ texts names.now) }
+    {
+        for name in names {
+            self.push_copy(name)?;
+        }
+        Ok(())
+    }
+
+    /// Adds names at the end.
+    pub fn append(&mut self, names: Names) -> Result<(), Memory>
+        ensures { OnOk result (self.new ≡ self.old ++ texts names) }
+    {
+        for name in names.into_vec() {
+            self.push(name)?;
+        }
         Ok(())
     }
 

@@ -2,10 +2,10 @@
 use Rattle.std.specs.Prelude.{◌≡◌, ℕ, ◌<◌, ◌≤◌, ◌⊎◌, List}
 use Rattle.mo_syntax.specs.declared.place.Place.{Place}
 use Rattle.mo_syntax.specs.declared.program.Tree.{Tree}
-use Rattle.mo_names.specs.declared.meaning.Meaning.{Meaning}
-use Rattle.mo_names.specs.declared.rule.Rule.{Rule}
-use Rattle.mo_names.specs.declared.rule.Rule.TheVariants as rule
-use Rattle.mo_names.specs.declared.rule.Breach.{Breach}
+use Rattle.mo_scopes.specs.declared.meaning.Meaning.{Meaning}
+use Rattle.mo_scopes.specs.declared.rule.Rule.{Rule}
+use Rattle.mo_scopes.specs.declared.rule.Rule.TheVariants as rule
+use Rattle.mo_scopes.specs.declared.rule.Breach.{Breach}
 use Rattle.mo_names.specs.declared.fault.NameFault.{NameFault}
 use Rattle.mo_names.specs.declared.fault.NameFault.TheVariants as fault
 use Rattle.mo_names.specs.ProgramNames.{findings, meanings, breaches}

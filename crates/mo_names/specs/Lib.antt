@@ -1,9 +1,3 @@
-pub mod Scopes
-pub mod Findings
-pub mod TypeNames
-pub mod PatternNames
-pub mod ExpressionNames
 pub mod ProgramNames
-pub mod PartNames
 pub mod Order
 pub mod Bound

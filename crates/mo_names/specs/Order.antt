@@ -15,8 +15,8 @@ use Rattle.mo_syntax.specs.declared.program.Tree.{Tree}
 use Rattle.mo_syntax.specs.declared.program.ActorField.{ActorField}
 use Rattle.mo_syntax.specs.declared.program.ActorField.TheVariants as field
 use Rattle.mo_name_table.specs.Places.{texts}
-use Rattle.mo_names.specs.Findings.{Names, Texts, contains}
-use Rattle.mo_names.specs.PatternNames.{in_pattern, in_parameters}
+use Rattle.mo_scopes.specs.Findings.{Names, Texts, contains}
+use Rattle.mo_pattern_names.specs.PatternNames.{in_pattern, in_parameters}
 
 -- it is one of these
 abbrev pub Among : {A : Type 0} → A → List A → Type 0

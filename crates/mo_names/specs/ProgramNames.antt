@@ -12,16 +12,16 @@ use Rattle.mo_syntax.specs.declared.program.SharedPrefix.{SharedPrefix}
 use Rattle.mo_syntax.specs.declared.program.Context.{Context}
 use Rattle.mo_syntax.specs.declared.program.Context.TheVariants as context
 use Rattle.mo_name_table.specs.Places.{texts}
-use Rattle.mo_names.specs.declared.finding.Finding.{Finding}
-use Rattle.mo_names.specs.declared.finding.Finding.TheVariants as finding
-use Rattle.mo_names.specs.declared.rule.Rule.TheVariants as rule
-use Rattle.mo_names.specs.declared.rule.Breach.{Breach}
-use Rattle.mo_names.specs.declared.meaning.Meaning.{Meaning}
-use Rattle.mo_names.specs.declared.scope.Scope.{Scope}
-use Rattle.mo_names.specs.Findings.{Names, InScope, contains, broken_where, identifier, label, together, labels, each_identifier, nothing}
-use Rattle.mo_names.specs.Scopes.{library_of, system_functions, with_values}
-use Rattle.mo_names.specs.PatternNames.{Binder, in_pattern, in_pattern_field, bound_names, each_binder, whole}
-use Rattle.mo_names.specs.ExpressionNames.{annotation, function, in_expression, in_declaration}
+use Rattle.mo_scopes.specs.declared.finding.Finding.{Finding}
+use Rattle.mo_scopes.specs.declared.finding.Finding.TheVariants as finding
+use Rattle.mo_scopes.specs.declared.rule.Rule.TheVariants as rule
+use Rattle.mo_scopes.specs.declared.rule.Breach.{Breach}
+use Rattle.mo_scopes.specs.declared.meaning.Meaning.{Meaning}
+use Rattle.mo_scopes.specs.declared.scope.Scope.{Scope}
+use Rattle.mo_scopes.specs.Findings.{Names, InScope, contains, broken_where, identifier, label, together, labels, each_identifier, nothing}
+use Rattle.mo_scopes.specs.Scopes.{library_of, system_functions, with_values}
+use Rattle.mo_pattern_names.specs.PatternNames.{Binder, in_pattern, in_pattern_field, bound_names, each_binder, whole}
+use Rattle.mo_bindings.specs.ExpressionNames.{annotation, function, in_expression, in_declaration}
 
 -- ---- imports
 

@@ -2,23 +2,30 @@
 ghost use Rattle.std.specs.Prelude.{◌≡◌};
 ghost use Rattle.mo_names.specs.Bound.{fault_of};
 
-use crate::rule::{Breach, Rule};
 use mo_num::Memory;
+use mo_scopes::{Breach, Rule};
 use mo_syntax::Place;
+use thiserror::Error;
 
 /// Why the names of a program are refused, and where: the condition of this name is false at the name that stands there.
-#[derive(Clone, Copy, Debug, PartialEq, Eq)]
+#[derive(Clone, Copy, Debug, PartialEq, Eq, Error)]
 pub enum NameFault {
     /// A name has no meaning where it is used.
+    #[error("the name at byte {start} has no meaning", start = .0.start)]
     Unknown(Place),
     /// A name is bound twice in one list, pattern or type.
+    #[error("the name at byte {start} is bound twice", start = .0.start)]
     Twice(Place),
     /// A value is used before it is defined.
+    #[error("the value at byte {start} is used before it is defined", start = .0.start)]
     UsedBeforeDefined(Place),
     /// Two labels of one object, variant or actor, or two stable variables, have equal numbers in Candid.
+    #[error("the label at byte {start} has the number of another", start = .0.start)]
     LabelClash(Place),
     /// An identifier begins with `__`, or a label is `_`, digits and `_`.
+    #[error("the name at byte {start} is reserved", start = .0.start)]
     Reserved(Place),
+    #[error("there was no memory")]
     Memory,
 }
 
@@ -32,17 +39,18 @@ impl From<Memory> for NameFault {
     }
 }
 
-impl Breach {
-    /// The fault that it is.
-    pub fn fault(self) -> NameFault
-        ensures { result ≡ fault_of self }
+impl NameFault {
+    /// The fault that a breach is.
+    pub fn from_breach(breach: Breach) -> NameFault
+        ensures { result ≡ fault_of breach }
     {
-        match self.rule {
-            Rule::Unknown => NameFault::Unknown(self.place),
-            Rule::Twice => NameFault::Twice(self.place),
-            Rule::UsedBeforeDefined => NameFault::UsedBeforeDefined(self.place),
-            Rule::LabelClash => NameFault::LabelClash(self.place),
-            Rule::Reserved => NameFault::Reserved(self.place),
+        let place = breach.place;
+        match breach.rule {
+            Rule::Unknown => NameFault::Unknown(place),
+            Rule::Twice => NameFault::Twice(place),
+            Rule::UsedBeforeDefined => NameFault::UsedBeforeDefined(place),
+            Rule::LabelClash => NameFault::LabelClash(place),
+            Rule::Reserved => NameFault::Reserved(place),
         }
     }
 }

@@ -2,9 +2,8 @@
 ghost use Rattle.std.specs.Prelude.{◌≡◌, ◌++◌, [], IfOk, OnOk};
 ghost use Rattle.mo_names.specs.ProgramNames.{meanings, meaning_in};
 
-use crate::finding::Finding;
-use crate::meaning::Meaning;
 use mo_num::{Memory, Sequence};
+use mo_scopes::{Finding, Meaning};
 use std::alloc::Global;
 use std::marker::Model;
 
@@ -16,7 +15,7 @@ pub struct Named {
 
 impl Model for Named {
     ghost use Rattle.std.specs.Prelude.{List};
-    ghost use Rattle.mo_names.specs.declared.meaning.Meaning.{Meaning};
+    ghost use Rattle.mo_scopes.specs.declared.meaning.Meaning.{Meaning};
 
     ghost Value = { List Meaning };
 

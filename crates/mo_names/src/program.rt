@@ -2,24 +2,31 @@
 ghost use Rattle.std.specs.Prelude.{◌≡◌, ◌++◌, ◌∷◌, [], OnOk, IfOk, map, not, is_none};
 ghost use Rattle.std.specs.List.{flat_map};
 ghost use Rattle.mo_name_table.specs.Places.{texts};
-ghost use Rattle.mo_names.specs.Findings.{identifier, together, labels, each_identifier};
-ghost use Rattle.mo_names.specs.Scopes.{library_of, with_values};
-ghost use Rattle.mo_names.specs.PatternNames.{whole};
-ghost use Rattle.mo_names.specs.ExpressionNames.{header, header_scope, body_scope};
+ghost use Rattle.mo_scopes.specs.Findings.{identifier, together, labels, each_identifier};
+ghost use Rattle.mo_scopes.specs.Scopes.{library_of, with_values};
+ghost use Rattle.mo_pattern_names.specs.PatternNames.{whole};
+ghost use Rattle.mo_bindings.specs.ExpressionNames.{header, header_scope, body_scope};
 ghost use Rattle.mo_names.specs.ProgramNames.{in_import, in_context, in_prefix, shared_function, in_actor_field, field_values, field_types, field_methods, field_systems, field_stables, actor_names, name_of, import_names, program_scope, in_actor, findings};
 
-use crate::finding::Findings;
-use crate::library::{Library, is_system_function, library_of};
-use crate::names::{broken_where, each_identifier, identifier, label, labels, push_copy, together};
-use crate::rule::Rule;
-use crate::scope::{Names, Scope, table_of};
-use crate::walk::Walk;
-use mo_name_table::NameTable;
+use mo_bindings::{declared_types, declared_values};
+use mo_name_table::{NameTable, Names, push_copy};
+use mo_name_walk::{find_in_declaration, find_in_expression};
 use mo_num::{Memory, Sequence};
+use mo_pattern_names::Walk;
+use mo_scopes::{
+    Findings, Library, Rule, Scope, broken_where, each_identifier, identifier, is_system_function,
+    label, labels, library_of, together,
+};
 use mo_syntax::{Actor, ActorField, Context, Import, Node, SharedFunction, SharedPrefix, Tree};
 use std::alloc::Global;
 
-impl Walk {
+/// A walk over a program.
+#[derive(Clone, Copy)]
+struct ProgramWalk {
+    walk: Walk,
+}
+
+impl ProgramWalk {
     fn import(self, import: &Import, found: &mut Findings) -> Result<(), Memory>
         ensures { OnOk result (found.new ≡ found.old ++ in_import import.now) }
     {
@@ -41,9 +48,9 @@ impl Walk {
     fn import_names(self, imports: &[Node<Import>]) -> Result<Names, Memory>
         ensures { IfOk result (λ made. made ≡ import_names imports.now) }
     {
-        let mut names = Names::new(self.alloc);
+        let mut names = Names::new(self.walk.alloc);
         for one in imports {
-            push_copy(self.alloc, &mut names, &one.get().name)?;
+            push_copy(self.walk.alloc, &mut names, &one.get().name)?;
         }
         Ok(names)
     }
@@ -52,7 +59,7 @@ impl Walk {
     fn libraries_of(self, imports: &[Node<Import>]) -> Result<Sequence<Option<Library>>, Memory>
         ensures { IfOk result (λ made. made ≡ map (λ x. library_of x.path) imports.now) }
     {
-        let mut libraries = Sequence::new(self.alloc);
+        let mut libraries = Sequence::new(self.walk.alloc);
         for one in imports {
             libraries.push(library_of(one.get().path.get().as_slice()))?;
         }
@@ -71,9 +78,10 @@ impl Walk {
     {
         match context {
             None => Ok(()),
-            Some(Context::Parenthesized(p)) => self.pattern(p.get(), scope, names, found),
+            Some(Context::Parenthesized(p)) => self.walk.pattern(p.get(), scope, names, found),
             Some(Context::Object(fields, _)) => {
-                self.pattern_fields(fields.as_slice(), scope, names, found)
+                self.walk
+                    .pattern_fields(fields.as_slice(), scope, names, found)
             }
         }
     }
@@ -104,9 +112,9 @@ impl Walk {
         ensures found { OnOk result (found.new ≡ found.old ++ whole (in_prefix prefix.now) scope.old) }
         ensures entered { OnOk result (scope.new ≡ with_values (in_prefix prefix.now).names scope.old) }
     {
-        let mut names = Names::new(self.alloc);
+        let mut names = Names::new(self.walk.alloc);
         self.prefix(prefix, scope, &mut names, found)?;
-        together(self.alloc, names.as_slice(), found)?;
+        together(self.walk.alloc, names.as_slice(), found)?;
         scope.add_values(names)
     }
 
@@ -121,14 +129,16 @@ impl Walk {
         ensures found { OnOk result (found.new ≡ found.old ++ header None function.now.parameters (Some function.now.result) (header_scope None scope.old)) }
         ensures entered { OnOk result (scope.new ≡ body_scope None function.now.parameters scope.old) }
     {
-        scope.add_types(Names::new(self.alloc))?;
-        let mut values = Names::new(self.alloc);
-        self.whole_parameters(&function.parameters, scope, &mut values, found)?;
-        self.type_expression(function.result.get(), scope, found)?;
+        scope.add_types(Names::new(self.walk.alloc))?;
+        let mut values = Names::new(self.walk.alloc);
+        self.walk
+            .whole_parameters(&function.parameters, scope, &mut values, found)?;
+        self.walk
+            .type_expression(function.result.get(), scope, found)?;
         scope.add_values(values)
     }
 
-    #[tactic(auto, using(crate::proofs::Scoping::seam, crate::proofs::Scoping::seam_twice))]
+    #[tactic(auto, using(mo_scopes::proofs::Scoping::seam, mo_scopes::proofs::Scoping::seam_twice))]
     fn shared_function(
         self,
         function: &SharedFunction,
@@ -142,9 +152,9 @@ impl Walk {
         let types = scope.types.len();
         self.enter_prefix(&function.prefix, scope, found)?;
         label(&function.name, found)?;
-        let loops = scope.hide_loops(self.alloc);
+        let loops = scope.hide_loops(self.walk.alloc);
         self.enter_shared(function, scope, found)?;
-        self.expression(function.body.get(), scope, found)?;
+        find_in_expression(self.walk, function.body.get(), scope, found)?;
         scope.leave(values, types, loops);
         Ok(())
     }
@@ -164,15 +174,15 @@ impl Walk {
                 identifier(name, found)?;
                 let is_other = !is_system_function(name.as_slice());
                 broken_where(is_other, Rule::Unknown, name, found)?;
-                self.expression(body.get(), scope, found)
+                find_in_expression(self.walk, body.get(), scope, found)
             }
             ActorField::Declared(_, declaration) => {
-                self.declaration(declaration.get(), scope, found)
+                find_in_declaration(self.walk, declaration.get(), scope, found)
             }
             ActorField::Stable(_, name, kind, a) => {
                 label(name, found)?;
-                self.annotation(kind, scope, found)?;
-                self.expression(a.get(), scope, found)
+                self.walk.annotation(kind, scope, found)?;
+                find_in_expression(self.walk, a.get(), scope, found)
             }
         }
     }
@@ -195,12 +205,12 @@ impl Walk {
         ensures { OnOk result (names.new ≡ names.old ++ field_values field.now) }
     {
         match field {
-            ActorField::Public(function) => push_copy(self.alloc, names, &function.get().name),
+            ActorField::Public(function) => push_copy(self.walk.alloc, names, &function.get().name),
             ActorField::System(_, _, _) => Ok(()),
             ActorField::Declared(_, declaration) => {
-                self.declared_values(declaration.get(), names)
+                declared_values(self.walk.alloc, declaration.get(), names)
             }
-            ActorField::Stable(_, name, _, _) => push_copy(self.alloc, names, name),
+            ActorField::Stable(_, name, _, _) => push_copy(self.walk.alloc, names, name),
         }
     }
 
@@ -208,25 +218,36 @@ impl Walk {
         ensures { OnOk result (names.new ≡ names.old ++ field_types field.now) }
     {
         match field {
-            ActorField::Declared(_, declaration) => self.declared_types(declaration.get(), names),
+            ActorField::Declared(_, declaration) => declared_types(
+                self.walk.alloc,
+                declaration.get(),
+                names,
+            ),
             _ => Ok(()),
         }
+    }
+
+    fn add_values(self, fields: &[Node<ActorField>], names: &mut Names) -> Result<(), Memory>
+        ensures { OnOk result (names.new ≡ names.old ++ flat_map field_values fields.now) }
+    {
+        for one in fields {
+            self.field_values(one.get(), names)?;
+        }
+        Ok(())
     }
 
     fn all_values(self, fields: &[Node<ActorField>]) -> Result<Names, Memory>
         ensures { IfOk result (λ made. made ≡ flat_map field_values fields.now) }
     {
-        let mut names = Names::new(self.alloc);
-        for one in fields {
-            self.field_values(one.get(), &mut names)?;
-        }
+        let mut names = Names::new(self.walk.alloc);
+        self.add_values(fields, &mut names)?;
         Ok(names)
     }
 
     fn all_types(self, fields: &[Node<ActorField>]) -> Result<Names, Memory>
         ensures { IfOk result (λ made. made ≡ flat_map field_types fields.now) }
     {
-        let mut names = Names::new(self.alloc);
+        let mut names = Names::new(self.walk.alloc);
         for one in fields {
             self.field_types(one.get(), &mut names)?;
         }
@@ -236,10 +257,10 @@ impl Walk {
     fn method_names(self, fields: &[Node<ActorField>]) -> Result<Names, Memory>
         ensures { IfOk result (λ made. made ≡ flat_map field_methods fields.now) }
     {
-        let mut names = Names::new(self.alloc);
+        let mut names = Names::new(self.walk.alloc);
         for one in fields {
             if let ActorField::Public(function) = one.get() {
-                push_copy(self.alloc, &mut names, &function.get().name)?;
+                push_copy(self.walk.alloc, &mut names, &function.get().name)?;
             }
         }
         Ok(names)
@@ -248,10 +269,10 @@ impl Walk {
     fn system_names(self, fields: &[Node<ActorField>]) -> Result<Names, Memory>
         ensures { IfOk result (λ made. made ≡ flat_map field_systems fields.now) }
     {
-        let mut names = Names::new(self.alloc);
+        let mut names = Names::new(self.walk.alloc);
         for one in fields {
             if let ActorField::System(name, _, _) = one.get() {
-                push_copy(self.alloc, &mut names, name)?;
+                push_copy(self.walk.alloc, &mut names, name)?;
             }
         }
         Ok(names)
@@ -260,10 +281,10 @@ impl Walk {
     fn stable_names(self, fields: &[Node<ActorField>]) -> Result<Names, Memory>
         ensures { IfOk result (λ made. made ≡ flat_map field_stables fields.now) }
     {
-        let mut names = Names::new(self.alloc);
+        let mut names = Names::new(self.walk.alloc);
         for one in fields {
             if let ActorField::Stable(_, name, _, _) = one.get() {
-                push_copy(self.alloc, &mut names, name)?;
+                push_copy(self.walk.alloc, &mut names, name)?;
             }
         }
         Ok(names)
@@ -273,25 +294,25 @@ impl Walk {
         ensures { OnOk result (found.new ≡ found.old ++ actor_names fields.now) }
     {
         let values = self.all_values(fields)?;
-        together(self.alloc, values.as_slice(), found)?;
+        together(self.walk.alloc, values.as_slice(), found)?;
         let types = self.all_types(fields)?;
-        together(self.alloc, types.as_slice(), found)?;
+        together(self.walk.alloc, types.as_slice(), found)?;
         let systems = self.system_names(fields)?;
-        together(self.alloc, systems.as_slice(), found)?;
+        together(self.walk.alloc, systems.as_slice(), found)?;
         let methods = self.method_names(fields)?;
-        labels(self.alloc, methods.as_slice(), found)?;
+        labels(self.walk.alloc, methods.as_slice(), found)?;
         let stables = self.stable_names(fields)?;
-        labels(self.alloc, stables.as_slice(), found)
+        labels(self.walk.alloc, stables.as_slice(), found)
     }
 
     fn actor_name(self, actor: &Actor) -> Result<Names, Memory>
         ensures { IfOk result (λ made. made ≡ name_of actor.now.name) }
     {
-        let mut names = Names::new(self.alloc);
+        let mut names = Names::new(self.walk.alloc);
         match &actor.name {
             None => Ok(names),
             Some(name) => {
-                push_copy(self.alloc, &mut names, name)?;
+                push_copy(self.walk.alloc, &mut names, name)?;
                 Ok(names)
             }
         }
@@ -303,7 +324,7 @@ impl Walk {
     {
         let mut names = self.import_names(imports)?;
         if let Some(name) = &actor.name {
-            push_copy(self.alloc, &mut names, name)?;
+            push_copy(self.walk.alloc, &mut names, name)?;
         }
         Ok(names)
     }
@@ -313,9 +334,7 @@ impl Walk {
         ensures { IfOk result (λ made. made ≡ name_of actor.now.name ++ flat_map field_values actor.now.fields) }
     {
         let mut names = self.actor_name(actor)?;
-        for one in actor.fields.as_slice() {
-            self.field_values(one.get(), &mut names)?;
-        }
+        self.add_values(actor.fields.as_slice(), &mut names)?;
         Ok(names)
     }
 
@@ -326,11 +345,11 @@ impl Walk {
         let imported = self.import_names(imports)?;
         let types = self.all_types(actor.fields.as_slice())?;
         Ok(Scope {
-            values: table_of(self.alloc, values)?,
-            imports: table_of(self.alloc, imported)?,
+            values: NameTable::from_names(self.walk.alloc, values)?,
+            imports: NameTable::from_names(self.walk.alloc, imported)?,
             libraries: self.libraries_of(imports)?,
-            types: table_of(self.alloc, types)?,
-            loops: NameTable::new(self.alloc),
+            types: NameTable::from_names(self.walk.alloc, types)?,
+            loops: NameTable::new(self.walk.alloc),
         })
     }
 
@@ -370,7 +389,7 @@ impl Walk {
     {
         self.each_import(imports, found)?;
         let names = self.program_names(imports, actor)?;
-        together(self.alloc, names.as_slice(), found)?;
+        together(self.walk.alloc, names.as_slice(), found)?;
         let name = self.actor_name(actor)?;
         each_identifier(name.as_slice(), found)
     }
@@ -382,7 +401,9 @@ impl Walk {
 pub fn find_names(alloc: Global, tree: &Tree) -> Result<Findings, Memory>
     ensures { IfOk result (λ found. found ≡ findings tree.now) }
 {
-    let walk = Walk { alloc };
+    let walk = ProgramWalk {
+        walk: Walk { alloc },
+    };
     let imports = tree.imports.as_slice();
     let actor = tree.actor.get();
     let mut found = Findings::new(alloc);

@@ -4,7 +4,7 @@ use Rattle.std.specs.List.{flat_map}
 use Rattle.std.proofs.Math.Logic.{⊎_elim}
 use Rattle.std.proofs.lemmas.Grind.{flat_map-append}
 use Rattle.mo_name_table.specs.Places.{texts}
-use Rattle.mo_names.specs.Findings.{Names, Texts, contains}
+use Rattle.mo_scopes.specs.Findings.{Names, Texts, contains}
 use Rattle.mo_names.specs.Order.{Step, Uses}
 use Rattle.std.specs.Str.{bytes_eq}
 use Rattle.std.proofs.lemmas.Slice.Eq.{bytes_eq-Decides}

@@ -3,7 +3,7 @@ use Rattle.std.proofs.Common.{◌≡◌, List, ◌++◌, ap, Result, Ok, Err, On
 use Rattle.std.specs.List.{flat_map}
 use Rattle.std.proofs.lemmas.List.Folds.{flat_map-map}
 use Rattle.mo_syntax.specs.declared.expressions.Case.{Case, fold_out-Case}
-use Rattle.mo_names.specs.Findings.{Names}
+use Rattle.mo_scopes.specs.Findings.{Names}
 use Rattle.mo_names.specs.Order.{Step, Found, FoundStep, declaration_step, expression_step, declaration_field_step, case_step, expression_field_step, found, found_step, without, pattern_names, names_of_steps}
 use Rattle.mo_order.specs.Parts.{found_member, found_case, found_field, steps_of, occurring}
 

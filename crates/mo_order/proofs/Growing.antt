@@ -6,7 +6,7 @@ use Rattle.std.proofs.lemmas.List.{take-append-drop, take-append-le}
 use Rattle.mo_syntax.specs.declared.name.Name.{Name}
 use Rattle.mo_name_table.specs.Places.{texts}
 use Rattle.mo_name_table.proofs.Finding.{texts_more}
-use Rattle.mo_names.specs.Findings.{Names, Texts, contains}
+use Rattle.mo_scopes.specs.Findings.{Names, Texts, contains}
 use Rattle.mo_names.specs.Order.{Step, Uses}
 use Rattle.mo_order.specs.Calls.{mentions}
 use Rattle.mo_order.specs.Reach.{Reached, Grown}

@@ -4,7 +4,7 @@ use Rattle.std.specs.Str.{bytes_eq}
 use Rattle.std.proofs.Math.Logic.{⊎_elim}
 use Rattle.std.proofs.lemmas.List.Folds.{list_any-append}
 use Rattle.std.proofs.lemmas.Slice.Eq.{bytes_eq-Decides}
-use Rattle.mo_names.specs.Findings.{Texts, contains}
+use Rattle.mo_scopes.specs.Findings.{Texts, contains}
 
 -- what is false is not true
 pub never : {A : Type 0} → IsTrue false → A

@@ -4,10 +4,10 @@ use Rattle.std.proofs.Math.Logic.{⊎_elim}
 use Rattle.std.proofs.lemmas.Grind.{flat_map-append}
 use Rattle.mo_syntax.specs.declared.place.Place.{Place}
 use Rattle.mo_syntax.specs.declared.program.Tree.{Tree}
-use Rattle.mo_names.specs.declared.finding.Finding.{Finding}
-use Rattle.mo_names.specs.declared.rule.Rule.{Rule}
-use Rattle.mo_names.specs.declared.rule.Rule.TheVariants as rule
-use Rattle.mo_names.specs.declared.rule.Breach.{Breach}
+use Rattle.mo_scopes.specs.declared.finding.Finding.{Finding}
+use Rattle.mo_scopes.specs.declared.rule.Rule.{Rule}
+use Rattle.mo_scopes.specs.declared.rule.Rule.TheVariants as rule
+use Rattle.mo_scopes.specs.declared.rule.Breach.{Breach}
 use Rattle.mo_names.specs.ProgramNames.{findings, breach_in, breaches}
 use Rattle.mo_names.specs.Order.{Among, Misplaced, lists_in}
 use Rattle.mo_names.specs.Bound.{Breaks, Comes, rank}

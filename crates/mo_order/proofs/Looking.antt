@@ -5,7 +5,7 @@ use Rattle.std.proofs.Math.Seq.{drop-length}
 use Rattle.std.proofs.lemmas.List.{take-append-drop, length-take-le, drop_at}
 use Rattle.mo_syntax.specs.declared.name.Name.{Name}
 use Rattle.mo_syntax.specs.declared.place.Place.{Place}
-use Rattle.mo_names.specs.Findings.{Names, Texts, contains}
+use Rattle.mo_scopes.specs.Findings.{Names, Texts, contains}
 use Rattle.mo_names.specs.Order.{Step, Uses, Among, IsEarly, Misplaced}
 use Rattle.mo_order.specs.Least.{StartsBy, LeastOf, OneOf}
 use Rattle.mo_order.specs.Reach.{Reached}

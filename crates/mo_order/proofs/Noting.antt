@@ -2,7 +2,7 @@
 use Rattle.std.proofs.Common.{◌≡◌, ℕ, Bool, true, false, List, [], ◌++◌, cond, refl, sym, ap, ◌∙◌, Result, Ok, Err, OnOk, append-nil}
 use Rattle.std.specs.Str.{bytes_eq}
 use Rattle.std.proofs.lemmas.Slice.Eq.{bytes_eq-Decides}
-use Rattle.mo_names.specs.Findings.{Texts}
+use Rattle.mo_scopes.specs.Findings.{Texts}
 
 chosen : (b : Bool) (old here more : Texts) → (b ≡ true → here ≡ old) → cond b (here ++ more) (cond b [] old) ≡ old ++ cond b more []
 chosen true old here more e = ap (λ t. t ++ more) (e refl)

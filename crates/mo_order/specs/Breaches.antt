@@ -1,9 +1,9 @@
 -- The first of the rules that are broken.
 use Rattle.std.specs.Prelude.{◌≡◌, ◌⊎◌, List, Option, Some}
 use Rattle.mo_syntax.specs.declared.place.Place.{Place}
-use Rattle.mo_names.specs.declared.finding.Finding.{Finding}
-use Rattle.mo_names.specs.declared.rule.Rule.TheVariants as rule
-use Rattle.mo_names.specs.declared.rule.Breach.{Breach}
+use Rattle.mo_scopes.specs.declared.finding.Finding.{Finding}
+use Rattle.mo_scopes.specs.declared.rule.Rule.TheVariants as rule
+use Rattle.mo_scopes.specs.declared.rule.Breach.{Breach}
 use Rattle.mo_names.specs.ProgramNames.{breaches}
 use Rattle.mo_names.specs.Order.{Among}
 use Rattle.mo_names.specs.Bound.{Comes}

@@ -5,7 +5,7 @@ use Rattle.std.specs.Global.{Vec}
 use Rattle.std.specs.Str.{bytes_eq}
 use Rattle.indexmap.specs.IndexMap.{IndexMap, get}
 use Rattle.mo_name_table.specs.Places.{texts}
-use Rattle.mo_names.specs.Findings.{Names, Texts}
+use Rattle.mo_scopes.specs.Findings.{Names, Texts}
 use Rattle.mo_names.specs.Order.{Step}
 
 -- the functions of a declaration, once for each place where the name occurs

@@ -3,7 +3,7 @@ use Rattle.std.specs.Prelude.{◌≡◌, ℕ, ◌≤◌, List, [], Option, drop,
 use Rattle.std.specs.List.{flat_map}
 use Rattle.mo_syntax.specs.declared.name.Name.{Name}
 use Rattle.mo_syntax.specs.declared.place.Place.{Place}
-use Rattle.mo_names.specs.Findings.{Names, Texts, contains}
+use Rattle.mo_scopes.specs.Findings.{Names, Texts, contains}
 use Rattle.mo_names.specs.Order.{Step, Among, IsEarly}
 use Rattle.mo_order.specs.Least.{LeastOf}
 use Rattle.mo_order.specs.Reach.{Reached}

@@ -1,4 +1,5 @@
 pub mod Parts
+pub mod PartNotes
 pub mod Least
 pub mod Calls
 pub mod Reach

@@ -4,7 +4,7 @@ use Rattle.std.specs.List.{flat_map}
 use Rattle.mo_syntax.specs.declared.expressions.Case.{Case, fold-Case}
 use Rattle.mo_syntax.specs.declared.expressions.ExpressionField.{ExpressionField, fold-ExpressionField}
 use Rattle.mo_syntax.specs.declared.declarations.DeclarationField.{DeclarationField, fold-DeclarationField}
-use Rattle.mo_names.specs.Findings.{Names}
+use Rattle.mo_scopes.specs.Findings.{Names}
 use Rattle.mo_names.specs.Order.{Step, Found, FoundStep, declaration_step, expression_step, declaration_field_step, case_step, expression_field_step}
 
 unfoldable pub found_member : DeclarationField → FoundStep

@@ -1,7 +1,7 @@
 -- How the names of a list that are defined late are reached through its functions.
 use Rattle.std.specs.Prelude.{◌≡◌, ℕ, List, ◌∷◌, ◌++◌, take, IsTrue}
 use Rattle.mo_name_table.specs.Places.{texts}
-use Rattle.mo_names.specs.Findings.{Texts, contains}
+use Rattle.mo_scopes.specs.Findings.{Texts, contains}
 use Rattle.mo_names.specs.Order.{Step, Uses}
 
 -- The list grew at its end by names of these alone, and now it has all of them.

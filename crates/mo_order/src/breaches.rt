@@ -6,7 +6,7 @@ ghost use Rattle.mo_names.specs.ProgramNames.{breach_in};
 ghost use Rattle.mo_order.specs.Breaches.{FirstOf, FoundOrEarly};
 ghost use Rattle.mo_order.specs.Least.{OneOf};
 
-use mo_names::{Breach, Finding, Rule};
+use mo_scopes::{Breach, Finding, Rule};
 use mo_syntax::Place;
 
 /// Where the rule stands in the order of rules.

@@ -6,9 +6,9 @@ ghost use Rattle.mo_name_table.specs.Places.{texts};
 ghost use Rattle.mo_names.specs.Order as order;
 ghost use Rattle.mo_order.specs.Calls.{functions_at, Mentioned, mentions, mentions_of};
 
-use crate::step::{Step, push_copies};
+use crate::step::Step;
 use indexmap::IndexMap;
-use mo_names::Names;
+use mo_name_table::{Names, push_copies};
 use mo_num::Memory;
 use mo_syntax::Name;
 use std::alloc::Global;

@@ -3,6 +3,7 @@
 
 mod breaches;
 mod calls;
+mod layers;
 mod order;
 mod program;
 mod reach;

@@ -6,9 +6,9 @@ ghost use Rattle.mo_order.specs.Early.{Ahead, EarlyFrom, LateAt, LateIn};
 ghost use Rattle.mo_order.specs.Least.{LeastOf, OneOf};
 
 use crate::calls::{Calls, calls_of};
+use crate::program::lists_of_program;
 use crate::reach::enter;
 use crate::step::{Step, Steps};
-use crate::walk::Walk;
 use mo_name_table::NameTable;
 use mo_num::Memory;
 use mo_syntax::{Name, Place, Tree};
@@ -106,6 +106,6 @@ fn first_in_lists(alloc: Global, lists: &[Steps]) -> Result<Option<Place>, Memor
 pub fn first_misplaced(alloc: Global, tree: &Tree) -> Result<Option<Place>, Memory>
     ensures { IfOk result (LeastOf (Misplaced (lists_in tree.now))) }
 {
-    let lists = (Walk { alloc }).program(tree)?;
+    let lists = lists_of_program(alloc, tree)?;
     first_in_lists(alloc, lists.as_slice())
 }

@@ -19,7 +19,7 @@ pub fn resolve(alloc: Global, tree: &Tree) -> Result<Named, NameFault>
     let found = find_names(alloc, tree)?;
     let early = first_misplaced(alloc, tree)?;
     match first_breach(found.as_slice(), early) {
-        Some(breach) => Err(breach.fault()),
+        Some(breach) => Err(NameFault::from_breach(breach)),
         None => Ok(Named::new(alloc, found.as_slice())?),
     }
 }

@@ -1,13 +1,13 @@
 //! Declarations as the test of order sees them: the names that they define and use.
 ghost use Rattle.std.specs.Prelude.{◌≡◌, ◌++◌, ◌∷◌, [], OnOk, IfOk};
 ghost use Rattle.mo_name_table.specs.Places.{texts};
-ghost use Rattle.mo_names.specs.Order.{without, names_of_steps};
+ghost use Rattle.mo_names.specs.Order.{found_step, without, names_of_steps};
 ghost use Rattle.mo_order.specs.Parts.{occurring};
 
-use mo_name_table::NameTable;
-use mo_names::Names;
+use mo_bindings::names_in_pattern;
+use mo_name_table::{NameTable, Names, push_copy};
 use mo_num::{Memory, Sequence};
-use mo_syntax::Name;
+use mo_syntax::{Declaration, Name};
 use std::alloc::Global;
 use std::marker::Model;
 
@@ -74,23 +74,6 @@ pub(crate) fn append<T: Drop>(list: &mut Sequence<T>, more: Sequence<T>) -> Resu
     Ok(())
 }
 
-/// Adds a copy of a name.
-pub(crate) fn push_copy(alloc: Global, names: &mut Names, name: &Name) -> Result<(), Memory>
-    ensures { OnOk result (names.new ≡ names.old ++ name.now ∷ []) }
-{
-    names.push(name.copy(alloc)?)
-}
-
-/// Adds copies of names.
-pub(crate) fn push_copies(alloc: Global, names: &mut Names, more: &[Name]) -> Result<(), Memory>
-    ensures { OnOk result (names.new ≡ names.old ++ more.now) }
-{
-    for one in more {
-        push_copy(alloc, names, one)?;
-    }
-    Ok(())
-}
-
 /// The list of one name.
 pub(crate) fn one_name(alloc: Global, name: &Name) -> Result<Names, Memory>
     ensures { IfOk result (λ made. made ≡ name.now ∷ []) }
@@ -100,36 +83,50 @@ pub(crate) fn one_name(alloc: Global, name: &Name) -> Result<Names, Memory>
     Ok(names)
 }
 
-/// Adds a copy of a name to a table.
-pub(crate) fn enter_copy(alloc: Global, table: &mut NameTable, name: &Name) -> Result<(), Memory>
-    ensures { OnOk result (table.new ≡ table.old ++ name.now.bytes ∷ []) }
+/// The names that a declaration defines, where it is evaluated at its place.
+#[tactic(auto, unfolding(mo_names::specs::Order::found_step, mo_names::specs::Order::found))]
+fn defines(alloc: Global, declaration: &Declaration) -> Result<Names, Memory>
+    ensures { IfOk result (λ made. texts made ≡ (found_step declaration.now).step.defines) }
 {
-    table.push(name.copy(alloc)?)
+    match declaration {
+        Declaration::Let(p, _) => names_in_pattern(alloc, p.get()),
+        Declaration::Var(name, _, _) => one_name(alloc, name),
+        Declaration::Func(_, _, _, _, _, _) => Ok(Names::new(alloc)),
+        Declaration::TypeAlias(_, _, _) => Ok(Names::new(alloc)),
+        Declaration::Class(_, _, _, _, _) => Ok(Names::new(alloc)),
+        Declaration::NamedObject(name, _, _) => one_name(alloc, name),
+        Declaration::Evaluate(_) => Ok(Names::new(alloc)),
+    }
 }
 
-/// Adds copies of names to a table.
-pub(crate) fn enter_copies(
+/// The name of a `func` or `class`.
+#[tactic(auto, unfolding(mo_names::specs::Order::found_step, mo_names::specs::Order::found))]
+fn functions(alloc: Global, declaration: &Declaration) -> Result<Names, Memory>
+    ensures { IfOk result (λ made. texts made ≡ (found_step declaration.now).step.functions) }
+{
+    match declaration {
+        Declaration::Let(_, _) => Ok(Names::new(alloc)),
+        Declaration::Var(_, _, _) => Ok(Names::new(alloc)),
+        Declaration::Func(name, _, _, _, _, _) => one_name(alloc, name),
+        Declaration::TypeAlias(_, _, _) => Ok(Names::new(alloc)),
+        Declaration::Class(name, _, _, _, _) => one_name(alloc, name),
+        Declaration::NamedObject(_, _, _) => Ok(Names::new(alloc)),
+        Declaration::Evaluate(_) => Ok(Names::new(alloc)),
+    }
+}
+
+/// Adds a declaration in which these names occur.
+pub(crate) fn push_step(
     alloc: Global,
-    table: &mut NameTable,
-    names: &[Name],
+    declaration: &Declaration,
+    occurs: Names,
+    steps: &mut Steps,
 ) -> Result<(), Memory>
-    ensures { OnOk result (table.new ≡ table.old ++ texts names.now) }
+    ensures { OnOk result (steps.new ≡ steps.old ++ record { defines = (found_step declaration.now).step.defines; functions = (found_step declaration.now).step.functions; occurs = occurs } ∷ []) }
 {
-    for one in names {
-        enter_copy(alloc, table, one)?;
-    }
-    Ok(())
-}
-
-/// The table of names.
-pub(crate) fn table_of(alloc: Global, names: Names) -> Result<NameTable, Memory>
-    ensures { IfOk result (λ made. made ≡ texts names) }
-{
-    let mut table = NameTable::new(alloc);
-    for name in names.into_vec() {
-        table.push(name)?;
-    }
-    Ok(table)
+    let defines = defines(alloc, declaration)?;
+    let functions = functions(alloc, declaration)?;
+    steps.push(Step::new(defines, functions, occurs))
 }
 
 /// The table of the names that the declarations of a list give meanings.
@@ -138,8 +135,8 @@ pub(crate) fn names_of_steps(alloc: Global, steps: &[Step]) -> Result<NameTable,
 {
     let mut table = NameTable::new(alloc);
     for one in steps {
-        enter_copies(alloc, &mut table, one.defines())?;
-        enter_copies(alloc, &mut table, one.functions())?;
+        table.push_copies(one.defines())?;
+        table.push_copies(one.functions())?;
     }
     Ok(table)
 }
@@ -187,4 +184,34 @@ pub(crate) fn push_occurring(
         push_without(alloc, names, bound, one.occurs())?;
     }
     Ok(())
+}
+
+/// Adds copies of the names that are not among these.
+pub(crate) fn push_unbound(
+    alloc: Global,
+    names: &mut Names,
+    bound: Names,
+    more: &[Name],
+) -> Result<(), Memory>
+    ensures { OnOk result (names.new ≡ names.old ++ without (texts bound) more.now) }
+{
+    let bound = NameTable::from_names(alloc, bound)?;
+    push_without(alloc, names, &bound, more)
+}
+
+/// Adds a list, the lists in it, and the names that occur in it and aren't bound in it.
+pub(crate) fn push_list(
+    alloc: Global,
+    steps: Steps,
+    inner: Lists,
+    free: &mut Names,
+    lists: &mut Lists,
+) -> Result<(), Memory>
+    ensures free { OnOk result (free.new ≡ free.old ++ without (names_of_steps steps) (occurring steps)) }
+    ensures lists { OnOk result (lists.new ≡ lists.old ++ steps ∷ inner) }
+{
+    let bound = names_of_steps(alloc, steps.as_slice())?;
+    push_occurring(alloc, free, &bound, steps.as_slice())?;
+    lists.push(steps)?;
+    append(lists, inner)
 }

@@ -2,7 +2,7 @@
 use mo_syntax::{Mark, Word};
 
 /// What a token is, without the value that it carries.
-#[derive(Clone, Copy, Debug, PartialEq, Eq)]
+#[derive(Clone, Copy)]
 pub enum Look {
     /// No token: the end.
     End,

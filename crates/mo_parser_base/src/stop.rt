@@ -2,7 +2,7 @@
 use mo_num::Memory;
 
 /// How the reading of a rule stops early.
-#[derive(Clone, Copy, Debug, PartialEq, Eq)]
+#[derive(Clone, Copy)]
 pub enum Stop {
     /// The next token does not fit.
     Refused,

@@ -3,25 +3,30 @@ ghost use Rattle.std.specs.Prelude.{◌≡◌, IfOk, IfErr};
 ghost use Rattle.mo_play.specs.Modules.{IsModule, IsJudged, Judged, unread_fault};
 
 use std::alloc::Global;
+use thiserror::Error;
 use wasm_read::{ReadFault, read};
 use wasm_tree::{Module, Rule};
 use wasm_valid::{Valid, ValidFault, validate};
 
 /// Why bytes are no valid module.
-#[derive(Clone, Copy, Debug, PartialEq, Eq)]
+#[derive(Clone, Copy, Debug, PartialEq, Eq, Error)]
 pub enum ModuleFault {
     /// They spell no module; the fault is not want of memory.
+    #[error("the bytes spell no module: {0}")]
     Read(ReadFault),
     /// They spell a module that breaks this rule.
+    #[error("a rule of validation is broken: {0:?}")]
     Valid(Rule),
 }
 
 /// Why there is no module to be played.
-#[derive(Clone, Copy, Debug, PartialEq, Eq)]
+#[derive(Clone, Copy, Debug, PartialEq, Eq, Error)]
 pub enum JudgeFault {
     /// The bytes are no valid module.
+    #[error("{0}")]
     Bad(ModuleFault),
     /// There was no memory.
+    #[error("there was no memory")]
     Memory,
 }
 

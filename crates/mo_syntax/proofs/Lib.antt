@@ -1,9 +1,7 @@
-pub mod Appending
 pub mod ExpressionEquations
 pub mod ExpressionInduction
 pub mod Known
 pub mod Mapped
-pub mod PartLemmas
 pub mod PatternEquations
 pub mod PatternInduction
 pub mod TypeEquations

@@ -2,13 +2,10 @@ pub mod Characters
 pub mod ExpressionGrammar
 pub mod Lexed
 pub mod Parts
-pub mod PartWriting
 pub mod PatternGrammar
 pub mod ProgramGrammar
 pub mod Tokens
 pub mod TypeGrammar
-pub mod TypeWrites
 pub mod Words
-pub mod Writes
 pub mod Writing
 pub mod formers

@@ -1,7 +1,7 @@
 //! What stands directly before a place in a text.
 
 /// What stands directly before a place, as far as the reading of `<`, `>` and `#` depends on it.
-#[derive(Clone, Copy, Debug, PartialEq, Eq)]
+#[derive(Clone, Copy)]
 pub enum Before {
     /// A space, tab, carriage return or newline.
     Blank,

@@ -34,7 +34,7 @@ pub enum Declaration {
 }
 
 /// Who sees a field of an object or class.
-#[derive(Clone, Copy, Debug, PartialEq, Eq)]
+#[derive(Clone, Copy)]
 pub enum Visibility {
     /// `public`
     Public,

@@ -3,33 +3,24 @@
 
 mod before;
 mod declarations;
-mod expression_writing;
 mod expressions;
 mod items;
-mod kinds;
-mod layers;
 mod literal;
 mod mark;
 mod name;
 mod node;
 mod operators;
-mod parts;
-mod pattern_writing;
 mod patterns;
 mod place;
 mod program;
 mod token;
-mod type_layers;
-mod type_writing;
 mod types;
 mod word;
-mod writing;
 
 pub use before::Before;
 pub use declarations::{Declaration, DeclarationField, Visibility};
 pub use expressions::{Case, Expression, ExpressionField};
 pub use items::Items;
-pub use kinds::Kinds;
 pub use literal::Literal;
 pub use mark::Mark;
 pub use name::Name;
@@ -40,7 +31,6 @@ pub use place::Place;
 pub use program::{
     Actor, ActorField, Context, Import, SharedFunction, SharedPrefix, SharedSort, Tree,
 };
-pub use token::{Token, TokenKind, Tokens};
+pub use token::{Kinds, Token, TokenKind, Tokens};
 pub use types::{Sharing, TypeExpression, TypeField, TypeItem, TypeMethod, TypeParameter, TypeTag};
 pub use word::Word;
-pub use writing::tokens;

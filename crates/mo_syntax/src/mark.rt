@@ -3,7 +3,7 @@ ghost use Rattle.std.specs.Prelude.{◌≡◌};
 ghost use Rattle.mo_syntax.specs.Words.{mark_text};
 
 /// An operator or mark of the language, by the Motoko language manual. Where one text is two of them, what stands beside it says which.
-#[derive(Clone, Copy, Debug, PartialEq, Eq)]
+#[derive(Clone, Copy, PartialEq, Eq)]
 pub enum Mark {
     /// `+`, addition
     Plus,

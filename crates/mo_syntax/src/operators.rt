@@ -1,7 +1,7 @@
 //! Operators of two operands (Motoko language manual, "Operators").
 
 /// An operator between two expressions.
-#[derive(Clone, Copy, Debug, PartialEq, Eq)]
+#[derive(Clone, Copy)]
 pub enum BinaryOperator {
     /// `or`
     Or,
@@ -42,7 +42,7 @@ pub enum BinaryOperator {
 }
 
 /// An operator between what is assigned to and an expression.
-#[derive(Clone, Copy, Debug, PartialEq, Eq)]
+#[derive(Clone, Copy)]
 pub enum AssignmentOperator {
     /// `:=`
     Plain,

@@ -70,7 +70,7 @@ pub struct SharedPrefix {
 }
 
 /// The words before `func`.
-#[derive(Clone, Copy, Debug, PartialEq, Eq)]
+#[derive(Clone, Copy)]
 pub enum SharedSort {
     /// `shared`
     Shared,

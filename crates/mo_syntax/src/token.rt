@@ -37,6 +37,9 @@ pub struct Token {
 /// A list of tokens.
 pub type Tokens = Sequence<Token>;
 
+/// A list of tokens without their places, but for those of names.
+pub type Kinds = Sequence<TokenKind>;
+
 impl TokenKind {
     /// What stands directly before the place at which a token of this kind ends.
     pub fn before(&self) -> Before

@@ -30,7 +30,7 @@ pub enum TypeExpression {
 }
 
 /// What stands before a function type.
-#[derive(Clone, Copy, Debug, PartialEq, Eq)]
+#[derive(Clone, Copy)]
 pub enum Sharing {
     /// Nothing.
     Local,

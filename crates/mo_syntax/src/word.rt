@@ -3,7 +3,7 @@ ghost use Rattle.std.specs.Prelude.{◌≡◌};
 ghost use Rattle.mo_syntax.specs.Words.{word_text};
 
 /// A reserved word of the language, by the Motoko language manual. No identifier has its text.
-#[derive(Clone, Copy, Debug, PartialEq, Eq)]
+#[derive(Clone, Copy, PartialEq, Eq)]
 pub enum Word {
     /// `actor`
     Actor,

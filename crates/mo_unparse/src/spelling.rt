@@ -7,7 +7,8 @@ ghost use Rattle.mo_unparse.specs.Writable.{AreWritable, IsOfLanguage, LexesTo};
 use crate::last::{Last, last_of};
 use crate::token::put_next;
 use mo_num::{Bytes, Memory};
-use mo_syntax::{TokenKind, Tree, tokens};
+use mo_syntax::{TokenKind, Tree};
+use mo_tokens::tokens;
 use std::alloc::Global;
 
 /// A text of the tree's own tokens. Where each name is an identifier and each character a Unicode scalar value, by the

@@ -7,17 +7,12 @@ use Rattle.wasm_tree.specs.Spelling.{IsByte, Then, IsU32}
 use Rattle.wasm_tree.specs.Binary.{IsValueType, IsBlockType}
 use Rattle.wasm_read.specs.declared.fault.Fault.{Fault}
 use Rattle.wasm_read.specs.declared.fault.Fault.TheVariants.{Malformed, Floats}
-use Rattle.wasm_read.specs.Fields.{◌>>=◌, Reading, made, first, behind, u32_at}
+use Rattle.exact_reading.specs.Reading.{◌>>=◌, made}
+use Rattle.wasm_read.specs.Fields.{Reading, first, behind, u32_at}
 use Rattle.wasm_read.specs.Codes.{value_type_by, value_type_at, block_type_by, block_type_at, indirect_at}
-use Rattle.wasm_read.proofs.Exact.{Front, Exact, okay, bind_ok, same_pair, made_sound, eq_is, behind_sound}
+use Rattle.exact_reading.proofs.Exact.{if_ok, not_ok, Front, Exact, bind_ok, same_pair, made_sound, eq_is}
+use Rattle.wasm_read.proofs.Exact.{okay, behind_sound}
 use Rattle.wasm_read.proofs.Numbers.{u32_exact}
-
-pub if_ok : {A C : Type 0} {t : Bool} {x y : Result A Fault} {r : A} → cond t x y ≡ okay r → (t ≡ true → x ≡ okay r → C) → (y ≡ okay r → C) → C
-if_ok {t = true} e f g = f refl e
-if_ok {t = false} e f g = g e
-
-pub not_ok : {A : Type 0} {f : Fault} {x : A} → Err f ≡ okay x → ⊥
-not_ok e = cc
 
 -- One byte is all of it.
 pub alone : {X : Type 0} (P : X → List ℕ → Type 0) (code b : ℕ) (x : X) (bs : List ℕ) (r : X × List ℕ) → b ≡ code → P x (code ∷ []) → okay (x, bs) ≡ okay r → Front P (b ∷ bs) r.0 r.1
@@ -29,11 +24,6 @@ coded code P front h = record { front = code ∷ []; back = front; whole = refl;
 
 pub uncoded : (code : ℕ) (P : List ℕ → Type 0) (front : List ℕ) → Then (IsByte code) P front → (back : List ℕ) × (front ≡ code ∷ back) × P back
 uncoded code P front h = (h.back, h.whole ∙ ap (λ l. l ++ h.back) h.first, h.second)
-
-pub announced : {X Y : Type 0} (P : X → List ℕ → Type 0) (Q : Y → List ℕ → Type 0) (f : X → Y) (p : Reading X) → Exact P p → (code b : ℕ) (bs : List ℕ) (r : Y × List ℕ) → b ≡ code → ((x : X) (front : List ℕ) → P x front → Q (f x) (code ∷ front)) → made f p bs ≡ okay r → Front Q (b ∷ bs) r.0 r.1
-announced P Q f p ep code b bs r t to h =
-    let a = made_sound P (λ y front. Q y (code ∷ front)) f p ep to bs r h in
-    record { front = code ∷ a.front; split = ap (λ c. c ∷ bs) t ∙ ap (λ l. code ∷ l) a.split; spells = a.spells }
 
 -- What begins with a byte is read by what the byte chooses.
 pub at_code : {Y : Type 0} (F : ℕ → List ℕ → Result Y Fault) (code : ℕ) (front back rest : List ℕ) → front ≡ code ∷ back → first F (front ++ rest) ≡ F code (back ++ rest)
@@ -48,8 +38,8 @@ of_floats false false r e = cc
 pub value_type_sound : (b : ℕ) (bs : List ℕ) (r : ValueType × List ℕ) → value_type_by b bs ≡ okay r → Front IsValueType (b ∷ bs) r.0 r.1
 value_type_sound b bs r e =
     if_ok e (λ t h. alone IsValueType 0x7f b I32 bs r (eq_is b 0x7f t) refl h)
-    (λ e. if_ok e (λ t h. alone IsValueType 0x7e b I64 bs r (eq_is b 0x7e t) refl h)
-    (λ e. absurd (of_floats (nat_eq b 0x7d) (nat_eq b 0x7c) r e)))
+    (λ _ e. if_ok e (λ t h. alone IsValueType 0x7e b I64 bs r (eq_is b 0x7e t) refl h)
+    (λ _ e. absurd (of_floats (nat_eq b 0x7d) (nat_eq b 0x7c) r e)))
 
 pub value_type_exact : Exact IsValueType value_type_at
 value_type_exact = record { sound = sound; complete = complete }
@@ -73,7 +63,7 @@ block_type_exact = record { sound = sound; complete = complete }
     sound [] r e = absurd (not_ok e)
     sound (b ∷ bs) r e =
         if_ok e (λ t h. alone IsBlockType 0x40 b None bs r (eq_is b 0x40 t) refl h)
-        (λ e.
+        (λ _ e.
         let s = bind_ok (value_type_by b bs) _ r e in
         let a = value_type_sound b bs s.0 s.1 in
         same_pair IsBlockType (b ∷ bs) (Some s.0.0, s.0.1) r s.2 (record { front = a.front; split = a.split; spells = a.spells }))

@@ -7,11 +7,12 @@ use Rattle.wasm_tree.specs.Binary.{IsOp, IsExpression}
 use Rattle.wasm_tree.specs.Code.{Code, Stop, Then, Unreachable, Block, Loop, If, IfElse, Br, BrIf, BrTable, Return, Call, CallIndirect, flat}
 use Rattle.wasm_read.specs.declared.fault.Fault.{Fault}
 use Rattle.wasm_read.specs.declared.fault.Fault.TheVariants.{Malformed}
-use Rattle.wasm_read.specs.Fields.{◌>>=◌, made, u32_at}
+use Rattle.exact_reading.specs.Reading.{◌>>=◌, made}
+use Rattle.wasm_read.specs.Fields.{u32_at}
 use Rattle.wasm_read.specs.Codes.{op_at, next_at, After, Closed, Open, Bad, after_op, after, body_by, body_at, expression_at}
-use Rattle.wasm_read.proofs.Exact.{Front, Exact, okay, ok_is, bind_ok, made_complete, append_nil}
+use Rattle.exact_reading.proofs.Exact.{Front, Exact, ok_is, bind_ok, made_complete, not_ok}
+use Rattle.wasm_read.proofs.Exact.{okay, append_nil}
 use Rattle.wasm_read.proofs.Numbers.{u32_exact}
-use Rattle.wasm_read.proofs.Choices.{not_ok}
 use Rattle.wasm_read.proofs.Ops.{op_sound, op_complete, IsNoLabel}
 use Rattle.wasm_read.proofs.Nesting.{Owing, onto, body_onto, if_onto, end_onto, else_onto, label_onto, table_onto}
 

@@ -1,26 +1,14 @@
--- Reading one after the other, as loops do.
+-- Reading instructions one after the other, as the loop does.
 use Rattle.std.proofs.Common.{◌≡◌, ℕ, suc, ◌-◌, ◌+◌, ◌≤◌, ◌<◌, Bool, List, [], ◌∷◌, ◌++◌, Result, Ok, Err, refl, sym, ap, ◌∙◌, append_assoc, arith}
 use Rattle.std.proofs.lemmas.List.{append-nil}
 use Rattle.wasm_tree.specs.declared.op.Op.{Op}
 use Rattle.wasm_read.specs.declared.fault.Fault.{Fault}
 use Rattle.wasm_read.specs.declared.fault.Fault.TheVariants.{Malformed}
-use Rattle.wasm_read.specs.declared.fault.Stop.{Stop}
-use Rattle.wasm_read.specs.declared.fault.Stop.TheVariants as stop
-use Rattle.wasm_read.specs.Fields.{◌>>=◌, Reading, Fails, each_at}
+use Rattle.exact_reading.specs.declared.stop.Stop.{Stop}
+use Rattle.exact_reading.specs.declared.stop.Stop.TheVariants as stop
+use Rattle.exact_reading.specs.Reading.{◌>>=◌, Fails}
+use Rattle.exact_reading.proofs.Loops.{with_front, regroup}
 use Rattle.wasm_read.specs.Codes.{next_at, After, Closed, Open, Bad, after, body_by, body_at, Tracks}
-
--- what was read before, and what is still read
-abbrev pub with_front : {X : Type 0} → List X → Result (List X × List ℕ) Fault → Result (List X × List ℕ) Fault
-with_front front read = read >>= λ x. Ok (front ++ x.0, x.1)
-
-pub regroup : {X : Type 0} (front : List X) (o : X) (read : Result (List X × List ℕ) Fault) → with_front front (read >>= λ y. Ok (o ∷ y.0, y.1)) ≡ with_front (front ++ o ∷ []) read
-regroup {X} front o (Ok x) = ap (λ (os : List X). Ok (os, x.1)) (sym (append_assoc front (o ∷ []) x.0))
-regroup front o (Err f) = refl
-
--- nothing was read before
-pub unframed : {X : Type 0} (read : Result (List X × List ℕ) Fault) → with_front [] read ≡ read
-unframed (Ok x) = refl
-unframed (Err f) = refl
 
 -- Instructions.
 module _ (front : List Op) (count i owed : ℕ) (os : List Bool) (bytes : List ℕ) (total : Result (List Op × List ℕ) Fault) (lt : i < count) (so_far : with_front front (body_at (count - i) owed os bytes) ≡ total) where
@@ -31,7 +19,7 @@ module _ (front : List Op) (count i owed : ℕ) (os : List Bool) (bytes : List �
       let s : body_at (count - i) owed os bytes ≡ body_by a o rest (body_at (count - (i + 1))) = rw (k, h, e) refl in
       ap (λ r. with_front front r) (sym s) ∙ so_far
 
-  pub faults : (e : Stop) → Fails e (next_at owed bytes) → Fails e total
+  pub faults : (e : Stop Fault) → Fails e (next_at owed bytes) → Fails e total
   unfolding body_at
   faults stop.Memory h = tt
   faults (stop.Fault f) h =
@@ -45,7 +33,7 @@ module _ (front : List Op) (count i owed : ℕ) (os : List Bool) (bytes : List �
   pub closes : (o : Op) (rest : List ℕ) → next_at owed bytes ≡ Ok (o, rest) → after o owed os ≡ Closed → total ≡ Ok (front, rest)
   closes o rest h e = sym (one o rest Closed h e) ∙ ap (λ (os : List Op). Ok (os, rest)) (append-nil front)
 
-  pub stops : (o : Op) (rest : List ℕ) (e : Stop) (now : List Bool) → next_at owed bytes ≡ Ok (o, rest) → Tracks (after o owed os) (Err e) now → Fails e total
+  pub stops : (o : Op) (rest : List ℕ) (e : Stop Fault) (now : List Bool) → next_at owed bytes ≡ Ok (o, rest) → Tracks (after o owed os) (Err e) now → Fails e total
   stops o rest stop.Memory now h t = tt
   stops o rest (stop.Fault f) now h t = sym (one o rest Bad h t.0) ∙ ap (λ g. Err g) (sym t.1)
 
@@ -55,24 +43,3 @@ runs_out front count i owed os bytes total le so_far =
     let k : count - i ≡ 0 = omega arith in
     let s : body_at (count - i) owed os bytes ≡ Err Malformed = rw k refl in
     sym so_far ∙ ap (λ r. with_front front r) s
-
--- The items of a vector.
-module _ {X : Type 0} (p : Reading X) (front : List X) (count i : ℕ) (bytes : List ℕ) (total : Result (List X × List ℕ) Fault) (so_far : with_front front (each_at p (count - i) bytes) ≡ total) where
-  pub item : (x : X) (rest : List ℕ) → i < count → p bytes ≡ Ok (x, rest) → with_front (front ++ x ∷ []) (each_at p (count - (i + 1)) rest) ≡ total
-  item x rest lt h =
-      let k : count - i ≡ suc (count - (i + 1)) = omega arith in
-      let s : with_front front (each_at p (count - i) bytes) ≡ with_front (front ++ x ∷ []) (each_at p (count - (i + 1)) rest) = rw (k, h) (regroup front x (each_at p (count - (i + 1)) rest)) in
-      sym s ∙ so_far
-
-  pub item_fails : (e : Stop) → i < count → Fails e (p bytes) → Fails e total
-  item_fails stop.Memory lt h = tt
-  item_fails (stop.Fault f) lt h =
-      let k : count - i ≡ suc (count - (i + 1)) = omega arith in
-      let s : with_front front (each_at p (count - i) bytes) ≡ Err f = rw (k, h) refl in
-      sym so_far ∙ s
-
-  pub items_end : count ≤ i → total ≡ Ok (front, bytes)
-  items_end le =
-      let k : count - i ≡ 0 = omega arith in
-      let s : with_front front (each_at p (count - i) bytes) ≡ Ok (front, bytes) = rw k (ap (λ (xs : List X). Ok (xs, bytes)) (append-nil front)) in
-      sym so_far ∙ s

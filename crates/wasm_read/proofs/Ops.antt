@@ -9,12 +9,14 @@ use Rattle.wasm_tree.specs.Opcodes.{load_code, store_code, equals_zero_code, fir
 use Rattle.wasm_tree.specs.Binary.{IsBlockType, IsPlain, IsOp}
 use Rattle.wasm_read.specs.declared.shape.Shape.{Shape}
 use Rattle.wasm_read.specs.declared.shape.Shape.TheVariants as shape
-use Rattle.wasm_read.specs.Fields.{◌>>=◌, Reading, made, both, behind, u32_at, s32_at, s64_at}
+use Rattle.exact_reading.specs.Reading.{◌>>=◌, made, both}
+use Rattle.wasm_read.specs.Fields.{Reading, behind, u32_at, s32_at, s64_at}
 use Rattle.wasm_read.specs.Shapes.{one, shape_at}
 use Rattle.wasm_read.specs.Codes.{block_type_at, argument, indirect_at, op_by, op_at}
-use Rattle.wasm_read.proofs.Exact.{Front, Exact, okay, bind_ok, same_pair, both_exact, made_complete, behind_sound}
+use Rattle.exact_reading.proofs.Exact.{Front, Exact, bind_ok, same_pair, made_complete, not_ok, announced}
+use Rattle.wasm_read.proofs.Exact.{okay, both_exact, behind_sound}
 use Rattle.wasm_read.proofs.Numbers.{u32_exact, s32_exact, s64_exact}
-use Rattle.wasm_read.proofs.Choices.{not_ok, alone, coded, uncoded, announced, at_code, block_type_exact, indirect_exact}
+use Rattle.wasm_read.proofs.Choices.{alone, coded, uncoded, at_code, block_type_exact, indirect_exact}
 use Rattle.wasm_read.proofs.Table.{Announces, announces, load_shape, store_shape, zero_shape, comparison_shape, unary_shape, binary_shape, conversion_shape, unreachable_shape, nop_shape, block_shape, loop_shape, if_shape, else_shape, end_shape, br_shape, br_if_shape, br_table_shape, return_shape, call_shape, call_indirect_shape, drop_shape, select_shape, local_get_shape, local_set_shape, local_tee_shape, global_get_shape, global_set_shape, memory_size_shape, memory_grow_shape, i32_const_shape, i64_const_shape}
 
 abbrev IsPair : ℕ × ℕ → List ℕ → Type 0

@@ -3,11 +3,13 @@ use Rattle.std.proofs.Common.{◌≡◌, ℕ, zero, suc, ◌+◌, ◌≤◌, Lis
 use Rattle.wasm_tree.specs.Spelling.{Exactly, Then, IsByteVector, IsSized, IsEach, IsMany}
 use Rattle.wasm_tree.specs.Binary.{IsName, IsCustom}
 use Rattle.wasm_read.specs.declared.fault.Fault.{Fault}
-use Rattle.wasm_read.specs.Fields.{◌>>=◌, byte_vector_at, name_at}
+use Rattle.exact_reading.specs.Reading.{◌>>=◌}
+use Rattle.wasm_read.specs.Fields.{byte_vector_at, name_at}
 use Rattle.wasm_read.specs.Sections.{after_custom, skip_at, skipped, customs_at, customs}
-use Rattle.wasm_read.proofs.Exact.{okay, ok_is, bind_ok, eq_is}
+use Rattle.wasm_read.proofs.Exact.{okay}
+use Rattle.exact_reading.proofs.Exact.{ok_is, bind_ok, eq_is, if_ok}
 use Rattle.wasm_read.proofs.Names.{vector_exact, name_exact}
-use Rattle.wasm_read.proofs.Choices.{if_ok, uncoded}
+use Rattle.wasm_read.proofs.Choices.{uncoded}
 
 -- a custom section, and what comes after it
 record Custom (bytes rest : List ℕ) : Type 0 where
@@ -60,7 +62,7 @@ skip_sound (b ∷ bs) rest e =
     let same : s.0 ≡ rest = ap (λ (r : Result (Option (List ℕ)) Fault). unwrapped r) s.2 in
     let c = custom_sound bs rest (s.1 ∙ ap (λ l. Ok l) same) in
     record { custom = c.custom; front = c.front; split = ap (λ x. x ∷ bs) (eq_is b 0x00 t) ∙ c.split; spells = c.spells })
-    (λ h. absurd (none_some rest h))
+    (λ _ h. absurd (none_some rest h))
 
 skip_complete : (c : List ℕ × List ℕ) (front rest : List ℕ) → IsCustom c front → skip_at (front ++ rest) ≡ Ok (Some rest)
 skip_complete c front rest h =

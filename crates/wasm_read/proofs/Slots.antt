@@ -6,11 +6,13 @@ use Rattle.wasm_tree.specs.Spelling.{Then, IsByteVector, IsSized, IsSection, IsV
 use Rattle.wasm_tree.specs.Binary.{IsCustom, After}
 use Rattle.wasm_read.specs.declared.fault.Fault.{Fault}
 use Rattle.wasm_read.specs.declared.fault.Fault.TheVariants.{Malformed}
-use Rattle.wasm_read.specs.Fields.{◌>>=◌, Reading, whole, byte_vector_at, vector_at}
+use Rattle.exact_reading.specs.Reading.{◌>>=◌}
+use Rattle.wasm_read.specs.Fields.{Reading, whole, byte_vector_at, vector_at}
 use Rattle.wasm_read.specs.Sections.{after_custom, made_some, skip_at, customs, opened, inside, section_at, finished, ends, then_at}
-use Rattle.wasm_read.proofs.Exact.{Front, Exact, okay, ok_is, bind_ok, test_ok, same_pair, nothing, append_nil, eq_is, whole_sound, whole_complete}
+use Rattle.exact_reading.proofs.Exact.{Front, Exact, ok_is, bind_ok, test_ok, same_pair, eq_is, if_ok}
+use Rattle.wasm_read.proofs.Exact.{okay, nothing, append_nil, whole_sound, whole_complete}
 use Rattle.wasm_read.proofs.Names.{vector_exact}
-use Rattle.wasm_read.proofs.Choices.{if_ok, coded, uncoded}
+use Rattle.wasm_read.proofs.Choices.{coded, uncoded}
 use Rattle.wasm_read.proofs.Vectors.{vectors_exact}
 use Rattle.wasm_read.proofs.Skipping.{customs_sound, customs_complete, many_append}
 
@@ -53,7 +55,7 @@ open_sound i (b ∷ bs) c e =
     let same : s.0 ≡ c = ap (λ (r : Result (Option (List ℕ × List ℕ)) Fault). unwrapped r) s.2 in
     let a = vector_exact.sound bs c (s.1 ∙ ap (λ l. Ok l) same) in
     (a.front, ap (λ x. x ∷ bs) (eq_is b i t) ∙ ap (λ l. i ∷ l) a.split, a.spells))
-    (λ h. absurd (none_some c h))
+    (λ _ h. absurd (none_some c h))
 
 open_complete : (i : ℕ) (contents front rest : List ℕ) → IsByteVector contents front → opened i (i ∷ (front ++ rest)) ≡ Ok (Some (contents, rest))
 unfolding opened

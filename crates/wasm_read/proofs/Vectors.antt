@@ -7,53 +7,30 @@ use Rattle.wasm_tree.specs.Spelling.{IsU32, IsEach, IsVector}
 use Rattle.wasm_tree.specs.Binary.{IsCode}
 use Rattle.wasm_read.specs.declared.fault.Fault.{Fault}
 use Rattle.wasm_read.specs.declared.fault.Fault.TheVariants.{Malformed}
-use Rattle.wasm_read.specs.Fields.{◌>>=◌, Reading, u32_at, each_at, vector_at}
+use Rattle.exact_reading.specs.Reading.{◌>>=◌}
+use Rattle.wasm_read.specs.Fields.{Reading, u32_at, vector_at}
 use Rattle.wasm_read.specs.Parts.{code_at, codes_at, code_vector_at}
-use Rattle.wasm_read.proofs.Exact.{Front, Exact, okay, bind_ok, same_pair, eq_is}
+use Rattle.exact_reading.proofs.Exact.{Front, Exact, Joins, bind_ok, same_pair, eq_is, if_ok, not_ok, renamed}
+use Rattle.exact_reading.proofs.Numbers.{IsUnsigned}
+use Rattle.exact_reading.proofs.Lists.{Linked, Each, list_exact}
+use Rattle.wasm_read.proofs.Exact.{okay, joins}
+use Rattle.wasm_read.proofs.Names.{count_joins}
 use Rattle.wasm_read.proofs.Numbers.{u32_exact}
-use Rattle.wasm_read.proofs.Choices.{if_ok, not_ok}
 
--- so many items
-abbrev IsItems : {X : Type 0} → (X → List ℕ → Type 0) → ℕ → List X → List ℕ → Type 0
-IsItems P n xs l = IsEach P xs l × (length xs ≡ n)
+pub each : {X : Type 0} (P : X → List ℕ → Type 0) → Each P (IsEach P)
+each P = record { none = refl; nothing = λ l h. h; some = λ x xs. joins (P x) (IsEach P xs) }
 
-each_sound : {X : Type 0} (P : X → List ℕ → Type 0) (p : Reading X) → Exact P p → (n : ℕ) (bytes : List ℕ) (r : List X × List ℕ) → each_at p n bytes ≡ okay r → Front (IsItems P n) bytes r.0 r.1
-each_sound P p ep zero bytes r e = same_pair (IsItems P zero) bytes ([], bytes) r e (record { front = []; split = refl; spells = (refl, refl) })
-each_sound P p ep (suc n) bytes r e =
-    let s = bind_ok (p bytes) _ r e in
-    let t = bind_ok (each_at p n s.0.1) _ r s.2 in
-    let a = ep.sound bytes s.0 s.1 in
-    let b = each_sound P p ep n s.0.1 t.0 t.1 in
-    same_pair (IsItems P (suc n)) bytes (s.0.0 ∷ t.0.0, t.0.1) r t.2 (record {
-      front = a.front ++ b.front;
-      split = a.split ∙ ap (λ l. a.front ++ l) b.split ∙ sym (append_assoc a.front b.front t.0.1);
-      spells = (record { front = a.front; back = b.front; whole = refl; first = a.spells; second = b.spells.0 }, ap suc b.spells.1);
-    })
+pub count_of : {X : Type 0} (P : X → List ℕ → Type 0) (xs : List X) → Joins (IsUnsigned 32 (length xs)) (IsEach P xs) (IsVector P xs)
+count_of P xs = count_joins (length xs) (IsEach P xs)
 
-each_complete : {X : Type 0} (P : X → List ℕ → Type 0) (p : Reading X) → Exact P p → (xs : List X) (front rest : List ℕ) → IsEach P xs front → each_at p (length xs) (front ++ rest) ≡ Ok (xs, rest)
-each_complete P p ep [] front rest h = ap (λ l. Ok ([], l ++ rest)) h
-each_complete {X} P p ep (x ∷ xs) front rest h =
-    let e : front ++ rest ≡ h.front ++ (h.back ++ rest) = ap (λ l. l ++ rest) h.whole ∙ append_assoc h.front h.back rest in
-    let a : p (front ++ rest) ≡ Ok (x, h.back ++ rest) = ap p e ∙ ep.complete x h.front (h.back ++ rest) h.first in
-    ap (λ (s : Result (X × List ℕ) Fault). s >>= λ x. each_at p (length xs) x.1 >>= λ xs. Ok (x.0 ∷ xs.0, xs.1)) a
-    ∙ ap (λ (s : Result (List X × List ℕ) Fault). s >>= λ xs. Ok (x ∷ xs.0, xs.1)) (each_complete P p ep xs h.back rest h.second)
+any_linked : {X : Type 0} (xs : List X) → Linked {S = Unit {0}} (λ _ _. Unit {0}) (λ _ _. tt) tt xs
+any_linked [] = tt
+any_linked (x ∷ xs) = (tt, any_linked xs)
 
 pub vectors_exact : {X : Type 0} (P : X → List ℕ → Type 0) (p : Reading X) → Exact P p → Exact (IsVector P) (vector_at p)
-vectors_exact P p ep = record {
-  sound = λ bytes r e.
-      let s = bind_ok (u32_at bytes) _ r e in
-      let a = u32_exact.sound bytes s.0 s.1 in
-      let b = each_sound P p ep s.0.0 s.0.1 r s.2 in
-      record {
-        front = a.front ++ b.front;
-        split = a.split ∙ ap (λ l. a.front ++ l) b.split ∙ sym (append_assoc a.front b.front r.1);
-        spells = record { front = a.front; back = b.front; whole = refl; first = subst (λ n. IsU32 n a.front) (sym b.spells.1) a.spells; second = b.spells.0 };
-      };
-  complete = λ x front rest h.
-      let e : front ++ rest ≡ h.front ++ (h.back ++ rest) = ap (λ l. l ++ rest) h.whole ∙ append_assoc h.front h.back rest in
-      let a : u32_at (front ++ rest) ≡ Ok (length x, h.back ++ rest) = ap u32_at e ∙ u32_exact.complete (length x) h.front (h.back ++ rest) h.first in
-      ap (λ (s : Result (ℕ × List ℕ) Fault). s >>= λ n. each_at p n.0 n.1) a ∙ each_complete P p ep x h.back rest h.second;
-}
+vectors_exact {X} P p ep =
+    renamed (λ xs b. IsVector P xs b × Linked {S = Unit {0}} {A = X} (λ _ _. Unit {0}) (λ _ _. tt) tt xs) (IsVector P) (vector_at p) (λ x front h. h.0) (λ x front h. (h, any_linked x))
+    (list_exact Malformed Malformed (λ _. p) (λ _ _. tt) P (IsEach P) (λ _ _. Unit {0}) (each P) (λ _. renamed P (λ a b. P a b × Unit {0}) p (λ x front h. (h, tt)) (λ x front h. h.0) ep) (IsVector P) tt (count_of P))
 
 -- The functions with these types.
 abbrev pub signatures : List Function → List ℕ
@@ -103,7 +80,7 @@ module _ (ep : (s : ℕ) → Exact (λ f l. IsCode f l × (f.signature ≡ s)) (
           split = a.split ∙ ap (λ l. a.front ++ l) b.split ∙ sym (append_assoc a.front b.front r.1);
           spells = (record { front = a.front; back = b.front; whole = refl; first = subst (λ n. IsU32 n a.front) n a.spells; second = b.spells.0 }, b.spells.1);
         })
-        (λ h. absurd (not_ok h));
+        (λ _ h. absurd (not_ok h));
     complete = λ x front rest k.
         let h = k.0 in
         let e : front ++ rest ≡ h.front ++ (h.back ++ rest) = ap (λ l. l ++ rest) h.whole ∙ append_assoc h.front h.back rest in

@@ -11,12 +11,15 @@ use Rattle.wasm_tree.specs.Binary.{IsFunctionType, IsLimits, IsTable, IsImport, 
 use Rattle.wasm_read.specs.declared.fault.Fault.{Fault}
 use Rattle.wasm_read.specs.declared.fault.Fault.TheVariants.{TooLarge, NotWasm, Malformed}
 use Rattle.wasm_read.specs.declared.fault.ReadFault.{ReadFault}
-use Rattle.wasm_read.specs.Fields.{◌>>=◌, made, u32_at, vector_at}
+use Rattle.exact_reading.specs.Reading.{◌>>=◌, made}
+use Rattle.exact_reading.specs.Prefix.{prefix_at}
+use Rattle.wasm_read.specs.Fields.{u32_at, vector_at}
 use Rattle.wasm_read.specs.Parts.{function_type_at, import_at, table_at, limits_at, global_at, export_at, element_at, code_vector_at, data_at}
-use Rattle.wasm_read.specs.Sections.{start_at, no_codes, code_section_at, Contents, contents_at, Stores, stores_at, sections_at, module_of, parts_at, without, largest, module_at, Answers}
-use Rattle.wasm_read.proofs.Exact.{Exact, okay, ok_is, bind_ok, test_ok, made_sound, made_complete, eq_is, nothing}
+use Rattle.wasm_read.specs.Sections.{start_at, no_codes, code_section_at, Contents, contents_at, Stores, stores_at, sections_at, module_of, parts_at, largest, module_at, Answers}
+use Rattle.exact_reading.proofs.Exact.{Exact, ok_is, bind_ok, test_ok, made_sound, made_complete, eq_is, if_ok, not_ok}
+use Rattle.exact_reading.proofs.Prefix.{prefix_sound, prefix_complete}
+use Rattle.wasm_read.proofs.Exact.{okay, nothing}
 use Rattle.wasm_read.proofs.Numbers.{u32_exact}
-use Rattle.wasm_read.proofs.Choices.{if_ok, not_ok}
 use Rattle.wasm_read.proofs.Vectors.{signatures, code_vector_exact}
 use Rattle.wasm_read.proofs.Parts.{function_type_exact, import_exact, table_exact, limits_exact, global_exact, export_exact, element_exact, data_exact, code_exact}
 use Rattle.wasm_read.proofs.Slots.{Slot, Tail, tail_complete, ends_tail, then_tail, vector_slot}
@@ -189,32 +192,21 @@ rest_complete : (bytes : List ℕ) (m : Module) → Rest m bytes → parts_at by
 unfolding sections_of
 rest_complete bytes m h = ap (λ (s : Result _ Fault). s >>= λ s. Ok (module_of s)) (tail_complete 1 IsSections sections_at (omega arith) sections_tail (sections_of m) bytes (from_rest m bytes h))
 
--- The header.
-without_sound : (hs bytes rest : List ℕ) → without hs bytes ≡ okay rest → bytes ≡ hs ++ rest
-without_sound [] bytes rest e = ok_is bytes rest e
-without_sound (h ∷ hs) [] rest e = absurd (not_ok e)
-without_sound (h ∷ hs) (b ∷ bs) rest e =
-    if_ok e (λ t k. ap (λ x. x ∷ bs) (eq_is b h t) ∙ ap (λ l. h ∷ l) (without_sound hs bs rest k)) (λ k. absurd (not_ok k))
-
-without_complete : (hs rest : List ℕ) → without hs (hs ++ rest) ≡ Ok rest
-without_complete [] rest = refl
-without_complete (h ∷ hs) rest = ap (λ t. cond t (without hs (hs ++ rest)) (Err NotWasm)) (eq-eqb h h refl) ∙ without_complete hs rest
-
 pub found : (bytes : List ℕ) (m : Module) → module_at bytes ≡ Ok m → Written m bytes
 unfolding module_at
 found bytes m e =
-    if_ok {t = nat_lt largest (length bytes)} {x = Err TooLarge} {y = without header bytes >>= parts_at} e (λ t k. absurd (not_ok k)) (λ k.
-    let s = bind_ok (without header bytes) parts_at m k in
-    record { front = header; back = s.0; whole = without_sound header bytes s.0 s.1; first = refl; second = rest_sound s.0 m s.2 })
+    if_ok {t = nat_lt largest (length bytes)} {x = Err TooLarge} {y = prefix_at NotWasm NotWasm header bytes >>= parts_at} e (λ t k. absurd (not_ok k)) (λ _ k.
+    let s = bind_ok (prefix_at NotWasm NotWasm header bytes) parts_at m k in
+    record { front = header; back = s.0; whole = prefix_sound NotWasm NotWasm header bytes s.0 s.1; first = refl; second = rest_sound s.0 m s.2 })
 
-after_header : (m : Module) (bytes : List ℕ) → Written m bytes → (without header bytes >>= parts_at) ≡ Ok m
+after_header : (m : Module) (bytes : List ℕ) → Written m bytes → (prefix_at NotWasm NotWasm header bytes >>= parts_at) ≡ Ok m
 after_header m bytes h =
     let e : bytes ≡ header ++ h.back = h.whole ∙ ap (λ l. l ++ h.back) h.first in
-    ap (λ l. without header l >>= parts_at) e ∙ ap (λ (s : Result (List ℕ) Fault). s >>= parts_at) (without_complete header h.back) ∙ rest_complete h.back m h.second
+    ap (λ l. prefix_at NotWasm NotWasm header l >>= parts_at) e ∙ ap (λ (s : Result (List ℕ) Fault). s >>= parts_at) (prefix_complete NotWasm NotWasm header h.back) ∙ rest_complete h.back m h.second
 
 pub only : (m : Module) (bytes : List ℕ) → length bytes ≤ largest → Written m bytes → module_at bytes ≡ Ok m
 unfolding module_at
-only m bytes le h = ap (λ t. cond t (Err TooLarge) (without header bytes >>= parts_at)) (le-ltb largest (length bytes) le) ∙ after_header m bytes h
+only m bytes le h = ap (λ t. cond t (Err TooLarge) (prefix_at NotWasm NotWasm header bytes >>= parts_at)) (le-ltb largest (length bytes) le) ∙ after_header m bytes h
 
 pub one_module : (m n : Module) (bytes : List ℕ) → Written m bytes → Written n bytes → m ≡ n
 one_module m n bytes h k = ok_is m n (sym (after_header m bytes h) ∙ after_header n bytes k)

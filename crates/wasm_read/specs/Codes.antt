@@ -8,13 +8,14 @@ use Rattle.wasm_tree.specs.declared.op.Op.{Op}
 use Rattle.wasm_tree.specs.declared.op.Op.TheVariants as op
 use Rattle.wasm_read.specs.declared.fault.Fault.{Fault}
 use Rattle.wasm_read.specs.declared.fault.Fault.TheVariants.{Malformed, Floats}
-use Rattle.wasm_read.specs.declared.fault.Stop.{Stop}
-use Rattle.wasm_read.specs.declared.fault.Stop.TheVariants as stop
+use Rattle.exact_reading.specs.declared.stop.Stop.{Stop}
+use Rattle.exact_reading.specs.declared.stop.Stop.TheVariants as stop
 use Rattle.wasm_read.specs.declared.shape.Shape.{Shape}
 use Rattle.wasm_read.specs.declared.shape.Shape.TheVariants as shape
 use Rattle.wasm_read.specs.declared.expression.Place.{Place}
 use Rattle.wasm_read.specs.declared.expression.Place.TheVariants as place
-use Rattle.wasm_read.specs.Fields.{◌>>=◌, Reading, made, both, first, behind, u32_at, s32_at, s64_at}
+use Rattle.exact_reading.specs.Reading.{◌>>=◌, made, both}
+use Rattle.wasm_read.specs.Fields.{Reading, first, behind, u32_at, s32_at, s64_at}
 use Rattle.wasm_read.specs.Shapes.{shape_at}
 
 -- the type of a value, of which two are of floats
@@ -123,7 +124,7 @@ unfoldable pub expression_at : Reading (List Op)
 expression_at bytes = body_at (length bytes) 0 [] bytes
 
 -- What keeping the open blocks answers.
-abbrev pub Tracks : After → Result Place Stop → List Bool → Type 0
+abbrev pub Tracks : After → Result Place (Stop Fault) → List Bool → Type 0
 Tracks next (Ok place.Closed) os = next ≡ Closed
 Tracks next (Ok (place.Open owed)) os = next ≡ Open owed os
 Tracks next (Err stop.Memory) os = Unit {0}

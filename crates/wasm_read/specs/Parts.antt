@@ -1,6 +1,5 @@
 -- Reading the parts of a module: WebAssembly Core 1.0 sections 5.3 and 5.5.
-use Rattle.std.specs.Prelude.{◌≡◌, ℕ, zero, suc, List, [], ◌∷◌, Bool, true, false, length, Option, Some, None, Result, Ok, Err, nat_eq, nat_lt, ◌^◌, if◌then◌else◌}
-use Rattle.std.specs.List.{sum_by}
+use Rattle.std.specs.Prelude.{◌≡◌, ℕ, zero, suc, List, [], ◌∷◌, Bool, true, false, length, Option, Some, None, Result, Ok, Err, nat_eq, nat_lt, ◌+◌, ◌^◌, if◌then◌else◌}
 use Rattle.wasm_tree.specs.declared.types.ValueType.{ValueType}
 use Rattle.wasm_tree.specs.declared.types.FunctionType.{FunctionType}
 use Rattle.wasm_tree.specs.declared.types.Limits.{Limits}
@@ -19,7 +18,8 @@ use Rattle.wasm_tree.specs.declared.module_parts.ElementSegment.{ElementSegment}
 use Rattle.wasm_tree.specs.declared.module_parts.DataSegment.{DataSegment}
 use Rattle.wasm_read.specs.declared.fault.Fault.{Fault}
 use Rattle.wasm_read.specs.declared.fault.Fault.TheVariants.{Malformed, Floats}
-use Rattle.wasm_read.specs.Fields.{◌>>=◌, Reading, made, both, kept, first, behind, after_code, vector_at, byte_vector_at, sized, name_at, u32_at}
+use Rattle.exact_reading.specs.Reading.{◌>>=◌, made, both, list_at}
+use Rattle.wasm_read.specs.Fields.{Reading, kept, first, behind, after_code, vector_at, byte_vector_at, sized, name_at, u32_at}
 use Rattle.wasm_read.specs.Codes.{value_type_at, expression_at}
 
 abbrev pub function_type : List ValueType × List ValueType → FunctionType
@@ -90,24 +90,28 @@ element x = record { table = x.0; offset = x.1.0; functions = x.1.1 }
 unfoldable pub element_at : Reading ElementSegment
 element_at = made element (both u32_at (both expression_at (vector_at u32_at)))
 
-abbrev pub locals : ℕ × ValueType → Locals
-locals x = record { count = x.0; kind = x.1 }
-
-unfoldable pub locals_at : Reading Locals
-locals_at = made locals (both u32_at value_type_at)
-
 abbrev pub segment : ℕ × (List Op × List ℕ) → DataSegment
 segment x = record { memory = x.0; offset = x.1.0; bytes = x.1.1 }
 
 unfoldable pub data_at : Reading DataSegment
 data_at = made segment (both u32_at (both expression_at byte_vector_at))
 
--- A function has fewer than 2^32 locals.
-abbrev pub are_few : List Locals → Bool
-are_few groups = nat_lt (sum_by (λ l. l.count) groups) (2 ^ 32)
+-- A function has fewer than 2^32 locals: a group is malformed at a count that takes their number there.
+abbrev pub locals : ℕ × ValueType → Locals
+locals x = record { count = x.0; kind = x.1 }
+
+-- how many locals a group has, behind so many others
+abbrev pub count_at : ℕ → Reading ℕ
+count_at before = kept (λ n. nat_lt (before + n) (2 ^ 32)) u32_at
+
+unfoldable pub locals_at : ℕ → Reading Locals
+locals_at before = made locals (both (count_at before) value_type_at)
+
+abbrev pub with_group : ℕ → Locals → ℕ
+with_group before group = before + group.count
 
 unfoldable pub groups_at : Reading (List Locals)
-groups_at = kept are_few (vector_at locals_at)
+groups_at = list_at Malformed Malformed locals_at with_group 0
 
 -- The locals and the body of a function, behind their size.
 unfoldable pub body_parts_at : Reading (List Locals × List Op)

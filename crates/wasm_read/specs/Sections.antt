@@ -15,7 +15,9 @@ use Rattle.wasm_read.specs.declared.fault.Fault.{Fault}
 use Rattle.wasm_read.specs.declared.fault.Fault.TheVariants.{TooLarge, NotWasm, Malformed, Floats}
 use Rattle.wasm_read.specs.declared.fault.ReadFault.{ReadFault}
 use Rattle.wasm_read.specs.declared.fault.ReadFault.TheVariants as «fault»
-use Rattle.wasm_read.specs.Fields.{◌>>=◌, Reading, made, whole, vector_at, byte_vector_at, name_at, u32_at}
+use Rattle.exact_reading.specs.Reading.{◌>>=◌, made}
+use Rattle.exact_reading.specs.Prefix.{prefix_at}
+use Rattle.wasm_read.specs.Fields.{Reading, whole, vector_at, byte_vector_at, name_at, u32_at}
 use Rattle.wasm_read.specs.Parts.{function_type_at, import_at, table_at, limits_at, global_at, export_at, element_at, code_vector_at, data_at}
 
 -- A custom section has a name and any bytes (section 5.5.3). What comes after the one of which the number was read.
@@ -131,19 +133,13 @@ module_of s = record {
 abbrev pub parts_at : List ℕ → Result Module Fault
 parts_at bytes = sections_at bytes >>= λ s. Ok (module_of s)
 
--- What comes after these bytes.
-abbrev pub without : List ℕ → List ℕ → Result (List ℕ) Fault
-without [] bytes = Ok bytes
-without (h ∷ hs) [] = Err NotWasm
-without (h ∷ hs) (b ∷ bs) = if nat_eq b h then without hs bs else Err NotWasm
-
 abbrev pub largest : ℕ
 largest = 67108864
 
 -- The module that the bytes spell, or the first fault.
 unfoldable pub module_at : List ℕ → Result Module Fault
 module_at bytes =
-    if nat_lt largest (length bytes) then Err TooLarge else (without header bytes >>= parts_at)
+    if nat_lt largest (length bytes) then Err TooLarge else (prefix_at NotWasm NotWasm header bytes >>= parts_at)
 
 -- What `read` answers is what reading gives, unless memory ran out.
 abbrev pub Answers : Result Module ReadFault → Result Module Fault → Type 0

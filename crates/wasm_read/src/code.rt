@@ -1,45 +1,69 @@
 //! The bodies of functions (WebAssembly Core 1.0, section 5.5.13).
-ghost use Rattle.std.specs.Prelude.{◌≡◌};
-ghost use Rattle.wasm_read.specs.Fields.{Gives};
-ghost use Rattle.wasm_read.specs.Parts.{are_few, groups_at, code_at, codes_at, code_vector_at};
+ghost use Rattle.std.specs.Prelude.{◌≡◌, ◌+◌, ◌<◌, ◌^◌, IfOk};
+ghost use Rattle.exact_reading.specs.Reading.{Tells, Gives, many};
+ghost use Rattle.wasm_read.specs.Parts.{count_at, locals_at, with_group, groups_at, code_at, codes_at, code_vector_at};
 
 use crate::expression::read_expression;
-use crate::fault::{Fault, Stop};
+use crate::fault::Fault;
+use crate::instruction::read_value_type;
 use crate::number::{read_slice, read_u32};
-use crate::part::LocalGroups;
-use crate::vector::read_vector;
+use exact_reading::Stop;
 use mo_num::Sequence;
 use std::alloc::Global;
 use wasm_tree::{Function, Locals};
 
-// A function has fewer than 2^32 locals.
-fn are_few(groups: &[Locals]) -> bool
-    ensures { result ≡ are_few groups.now }
+/// The count of a group of locals behind so many others, of which a function has fewer than 2^32.
+fn read_count(before: u32, bytes: &[u8]) -> Result<(u32, &[u8]), Fault>
+    ensures { Tells (λ x. (x.0, x.1.now)) result (count_at before bytes.now) }
 {
-    let mut left = u32::MAX;
-    for group in groups {
-        if group.count > left {
-            return false;
-        }
-        left -= group.count;
+    let (count, rest) = read_u32(bytes)?;
+    if count > u32::MAX - before {
+        return Err(Fault::Malformed);
     }
-    true
+    Ok((count, rest))
 }
 
-#[tactic(auto, unfolding(crate::specs::Parts::groups_at))]
-fn read_groups(alloc: Global, bytes: &[u8]) -> Result<(Sequence<Locals>, &[u8]), Stop>
-    ensures { Gives (λ x. (x.0, x.1.now)) result (groups_at bytes.now) }
+#[tactic(auto, unfolding(crate::specs::Parts::locals_at))]
+fn read_group(before: u32, bytes: &[u8]) -> Result<(Locals, &[u8]), Stop<Fault>>
+    ensures told { Gives (λ x. (x.0, x.1.now)) result (locals_at before bytes.now) }
+    ensures few { IfOk result (λ x. before + x.0.count < 2 ^ 32) }
 {
-    let (groups, rest) = read_vector::<Locals, LocalGroups>(alloc, bytes)?;
-    if !are_few(groups.as_slice()) {
-        return Err(Stop::Fault(Fault::Malformed));
+    let (count, rest) = read_count(before, bytes)?;
+    let (kind, rest) = read_value_type(rest)?;
+    Ok((Locals { count, kind }, rest))
+}
+
+fn read_so_many_groups(
+    alloc: Global,
+    number: u32,
+    bytes: &[u8],
+) -> Result<(Vec<Locals>, &[u8]), Stop<Fault>>
+    ensures { Gives (λ x. (x.0.items, x.1.now)) result (many locals_at with_group number 0 bytes.now) }
+{
+    let mut groups = Vec::new(alloc);
+    let mut before = 0;
+    let mut rest = bytes;
+    for _ in 0..number {
+        let (group, left) = read_group(before, rest)?;
+        before += group.count;
+        groups.push(group)?;
+        rest = left;
     }
     Ok((groups, rest))
 }
 
+#[tactic(auto, unfolding(crate::specs::Parts::groups_at))]
+fn read_groups(alloc: Global, bytes: &[u8]) -> Result<(Sequence<Locals>, &[u8]), Stop<Fault>>
+    ensures { Gives (λ x. (x.0, x.1.now)) result (groups_at bytes.now) }
+{
+    let (number, rest) = read_u32(bytes)?;
+    let (groups, rest) = read_so_many_groups(alloc, number, rest)?;
+    Ok((Sequence::from_vec(groups), rest))
+}
+
 /// The function with this type whose locals and body stand behind their size.
 #[tactic(auto, unfolding(crate::specs::Parts::body_parts_at))]
-fn read_code(alloc: Global, signature: u32, bytes: &[u8]) -> Result<(Function, &[u8]), Stop>
+fn read_code(alloc: Global, signature: u32, bytes: &[u8]) -> Result<(Function, &[u8]), Stop<Fault>>
     ensures { Gives (λ x. (x.0, x.1.now)) result (code_at signature bytes.now) }
 {
     let (contents, rest) = read_slice(bytes)?;
@@ -62,7 +86,7 @@ fn read_each_code<'a>(
     alloc: Global,
     signatures: &[u32],
     bytes: &'a [u8],
-) -> Result<(Vec<Function>, &'a [u8]), Stop>
+) -> Result<(Vec<Function>, &'a [u8]), Stop<Fault>>
     ensures { Gives (λ x. (x.0.items, x.1.now)) result (codes_at signatures.now bytes.now) }
 {
     let mut functions = Vec::new(alloc);
@@ -81,7 +105,7 @@ pub fn read_codes<'a>(
     alloc: Global,
     signatures: &[u32],
     bytes: &'a [u8],
-) -> Result<(Sequence<Function>, &'a [u8]), Stop>
+) -> Result<(Sequence<Function>, &'a [u8]), Stop<Fault>>
     ensures { Gives (λ x. (x.0, x.1.now)) result (code_vector_at signatures.now bytes.now) }
 {
     let (count, rest) = read_u32(bytes)?;

@@ -1,17 +1,18 @@
 //! Expressions (WebAssembly Core 1.0, section 5.4.7), read with no recursion on their nesting.
 ghost use Rattle.std.specs.Prelude.{◌≡◌, ◌<◌, reverse};
-ghost use Rattle.wasm_read.specs.Fields.{Tells, Gives};
+ghost use Rattle.exact_reading.specs.Reading.{Tells, Gives};
 ghost use Rattle.wasm_read.specs.Codes.{next_at, after, after_op, Tracks, expression_at};
 
-use crate::fault::{Fault, Stop};
+use crate::fault::Fault;
 use crate::instruction::read_op;
 use crate::number::read_u32;
+use exact_reading::Stop;
 use mo_num::Sequence;
 use std::alloc::Global;
 use wasm_tree::{Expression, Op};
 
 /// Where an expression goes on.
-#[derive(Clone, Copy, Debug, PartialEq, Eq)]
+#[derive(Clone, Copy)]
 pub enum Place {
     /// Its last `end` has come.
     Closed,
@@ -31,7 +32,7 @@ fn read_next(owed: u64, bytes: &[u8]) -> Result<(Op, &[u8]), Fault>
 }
 
 /// Keeps the blocks that are open, the innermost last, each with whether an `else` may come.
-fn track(op: Op, owed: u64, opens: &mut Vec<bool>) -> Result<Place, Stop>
+fn track(op: Op, owed: u64, opens: &mut Vec<bool>) -> Result<Place, Stop<Fault>>
     ensures { Tracks (after op owed (reverse opens.old.items)) result (reverse opens.new.items) }
 {
     if owed > 0 {
@@ -40,7 +41,7 @@ fn track(op: Op, owed: u64, opens: &mut Vec<bool>) -> Result<Place, Stop>
     track_op(op, opens)
 }
 
-fn track_op(op: Op, opens: &mut Vec<bool>) -> Result<Place, Stop>
+fn track_op(op: Op, opens: &mut Vec<bool>) -> Result<Place, Stop<Fault>>
     ensures { Tracks (after_op op (reverse opens.old.items)) result (reverse opens.new.items) }
 {
     match op {
@@ -70,7 +71,7 @@ fn track_op(op: Op, opens: &mut Vec<bool>) -> Result<Place, Stop>
 }
 
 /// The instructions up to the `end` that closes them, which is left out.
-fn read_ops(alloc: Global, bytes: &[u8]) -> Result<(Vec<Op>, &[u8]), Stop>
+fn read_ops(alloc: Global, bytes: &[u8]) -> Result<(Vec<Op>, &[u8]), Stop<Fault>>
     ensures { Gives (λ x. (x.0.items, x.1.now)) result (expression_at bytes.now) }
 {
     let mut ops = Vec::new(alloc);
@@ -92,7 +93,7 @@ fn read_ops(alloc: Global, bytes: &[u8]) -> Result<(Vec<Op>, &[u8]), Stop>
 }
 
 /// An expression.
-pub fn read_expression(alloc: Global, bytes: &[u8]) -> Result<(Expression, &[u8]), Stop>
+pub fn read_expression(alloc: Global, bytes: &[u8]) -> Result<(Expression, &[u8]), Stop<Fault>>
     ensures { Gives (λ x. (x.0, x.1.now)) result (expression_at bytes.now) }
 {
     let (ops, rest) = read_ops(alloc, bytes)?;

@@ -1,6 +1,6 @@
 //! Types and instructions (WebAssembly Core 1.0, sections 5.3 and 5.4).
 ghost use Rattle.std.specs.Prelude.{◌≡◌};
-ghost use Rattle.wasm_read.specs.Fields.{Tells};
+ghost use Rattle.exact_reading.specs.Reading.{Tells};
 ghost use Rattle.wasm_read.specs.Shapes.{shape_at};
 ghost use Rattle.wasm_read.specs.Codes.{value_type_at, block_type_at, indirect_at, op_by, op_at};
 

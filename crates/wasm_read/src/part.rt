@@ -1,17 +1,19 @@
 //! The parts of a module (WebAssembly Core 1.0, sections 5.3 and 5.5).
 ghost use Rattle.std.specs.Prelude.{◌≡◌};
-ghost use Rattle.wasm_read.specs.Fields.{Tells, made, both, u32_at};
+ghost use Rattle.exact_reading.specs.Reading.{Tells, made, both};
+ghost use Rattle.wasm_read.specs.Fields.{u32_at};
 ghost use Rattle.wasm_read.specs.Parts.{from_to, limits_at, table_at, mutable_at, global_type_at, import_kind_at, export_kind_at};
 
 use crate::expression::read_expression;
-use crate::fault::{Fault, Stop};
+use crate::fault::Fault;
 use crate::instruction::read_value_type;
 use crate::number::{after, read_bytes, read_name, read_u32};
 use crate::vector::{Item, read_vector};
+use exact_reading::Stop;
 use std::alloc::Global;
 use wasm_tree::{
     DataSegment, ElementSegment, Export, ExportKind, FunctionType, GlobalType, Import, ImportKind,
-    Limits, Locals, ValueType,
+    Limits, ValueType,
 };
 
 fn read_range(bytes: &[u8]) -> Result<(Limits, &[u8]), Fault>
@@ -127,7 +129,7 @@ impl Item<ValueType> for ValueTypes {
 
     ghost at = { value_type_at };
 
-    fn read_item(_alloc: Global, bytes: &[u8]) -> Result<(ValueType, &[u8]), Stop> {
+    fn read_item(_alloc: Global, bytes: &[u8]) -> Result<(ValueType, &[u8]), Stop<Fault>> {
         Ok(read_value_type(bytes)?)
     }
 }
@@ -140,7 +142,7 @@ impl Item<u32> for Indices {
 
     ghost at = { u32_at };
 
-    fn read_item(_alloc: Global, bytes: &[u8]) -> Result<(u32, &[u8]), Stop> {
+    fn read_item(_alloc: Global, bytes: &[u8]) -> Result<(u32, &[u8]), Stop<Fault>> {
         Ok(read_u32(bytes)?)
     }
 }
@@ -154,7 +156,7 @@ impl Item<FunctionType> for FunctionTypes {
     ghost at = { function_type_at };
 
     #[tactic(auto, unfolding(crate::specs::Parts::function_type_at))]
-    fn read_item(alloc: Global, bytes: &[u8]) -> Result<(FunctionType, &[u8]), Stop> {
+    fn read_item(alloc: Global, bytes: &[u8]) -> Result<(FunctionType, &[u8]), Stop<Fault>> {
         let rest = after(0x60, bytes)?;
         let (params, rest) = read_vector::<ValueType, ValueTypes>(alloc, rest)?;
         let (results, rest) = read_vector::<ValueType, ValueTypes>(alloc, rest)?;
@@ -170,7 +172,7 @@ impl Item<Limits> for Tables {
 
     ghost at = { table_at };
 
-    fn read_item(_alloc: Global, bytes: &[u8]) -> Result<(Limits, &[u8]), Stop> {
+    fn read_item(_alloc: Global, bytes: &[u8]) -> Result<(Limits, &[u8]), Stop<Fault>> {
         Ok(read_table(bytes)?)
     }
 }
@@ -183,7 +185,7 @@ impl Item<Limits> for Memories {
 
     ghost at = { limits_at };
 
-    fn read_item(_alloc: Global, bytes: &[u8]) -> Result<(Limits, &[u8]), Stop> {
+    fn read_item(_alloc: Global, bytes: &[u8]) -> Result<(Limits, &[u8]), Stop<Fault>> {
         Ok(read_limits(bytes)?)
     }
 }
@@ -197,7 +199,7 @@ impl Item<Import> for Imports {
     ghost at = { import_at };
 
     #[tactic(auto, unfolding(crate::specs::Parts::import_at))]
-    fn read_item(alloc: Global, bytes: &[u8]) -> Result<(Import, &[u8]), Stop> {
+    fn read_item(alloc: Global, bytes: &[u8]) -> Result<(Import, &[u8]), Stop<Fault>> {
         let (module, rest) = read_name(alloc, bytes)?;
         let (name, rest) = read_name(alloc, rest)?;
         let (kind, rest) = read_import_kind(rest)?;
@@ -214,7 +216,7 @@ impl Item<wasm_tree::Global> for Globals {
     ghost at = { global_at };
 
     #[tactic(auto, unfolding(crate::specs::Parts::global_at))]
-    fn read_item(alloc: Global, bytes: &[u8]) -> Result<(wasm_tree::Global, &[u8]), Stop> {
+    fn read_item(alloc: Global, bytes: &[u8]) -> Result<(wasm_tree::Global, &[u8]), Stop<Fault>> {
         let (kind, rest) = read_global_type(bytes)?;
         let (init, rest) = read_expression(alloc, rest)?;
         Ok((wasm_tree::Global { kind, init }, rest))
@@ -230,7 +232,7 @@ impl Item<Export> for Exports {
     ghost at = { export_at };
 
     #[tactic(auto, unfolding(crate::specs::Parts::export_at))]
-    fn read_item(alloc: Global, bytes: &[u8]) -> Result<(Export, &[u8]), Stop> {
+    fn read_item(alloc: Global, bytes: &[u8]) -> Result<(Export, &[u8]), Stop<Fault>> {
         let (name, rest) = read_name(alloc, bytes)?;
         let (kind, rest) = read_export_kind(rest)?;
         Ok((Export { name, kind }, rest))
@@ -246,7 +248,7 @@ impl Item<ElementSegment> for Elements {
     ghost at = { element_at };
 
     #[tactic(auto, unfolding(crate::specs::Parts::element_at))]
-    fn read_item(alloc: Global, bytes: &[u8]) -> Result<(ElementSegment, &[u8]), Stop> {
+    fn read_item(alloc: Global, bytes: &[u8]) -> Result<(ElementSegment, &[u8]), Stop<Fault>> {
         let (table, rest) = read_u32(bytes)?;
         let (offset, rest) = read_expression(alloc, rest)?;
         let (functions, rest) = read_vector::<u32, Indices>(alloc, rest)?;
@@ -261,22 +263,6 @@ impl Item<ElementSegment> for Elements {
     }
 }
 
-/// Groups of locals.
-pub struct LocalGroups;
-
-impl Item<Locals> for LocalGroups {
-    ghost use Rattle.wasm_read.specs.Parts.{locals_at};
-
-    ghost at = { locals_at };
-
-    #[tactic(auto, unfolding(crate::specs::Parts::locals_at))]
-    fn read_item(_alloc: Global, bytes: &[u8]) -> Result<(Locals, &[u8]), Stop> {
-        let (count, rest) = read_u32(bytes)?;
-        let (kind, rest) = read_value_type(rest)?;
-        Ok((Locals { count, kind }, rest))
-    }
-}
-
 /// Bytes of a memory.
 pub struct DataSegments;
 
@@ -286,7 +272,7 @@ impl Item<DataSegment> for DataSegments {
     ghost at = { data_at };
 
     #[tactic(auto, unfolding(crate::specs::Parts::data_at))]
-    fn read_item(alloc: Global, bytes: &[u8]) -> Result<(DataSegment, &[u8]), Stop> {
+    fn read_item(alloc: Global, bytes: &[u8]) -> Result<(DataSegment, &[u8]), Stop<Fault>> {
         let (memory, rest) = read_u32(bytes)?;
         let (offset, rest) = read_expression(alloc, rest)?;
         let (bytes, rest) = read_bytes(alloc, rest)?;

@@ -2,14 +2,17 @@
 ghost use Rattle.std.specs.Prelude.{◌≡◌, ◌≤◌, length, Ok, IfOk};
 ghost use Rattle.wasm_tree.specs.Binary.{header, Written};
 ghost use Rattle.wasm_tree.specs.declared.module_parts.Module.{Module};
-ghost use Rattle.wasm_read.specs.Fields.{Tells, Gives};
-ghost use Rattle.wasm_read.specs.Sections.{Answers, contents_at, stores_at, parts_at, module_at, without};
+ghost use Rattle.exact_reading.specs.Reading.{Tells, Gives};
+ghost use Rattle.exact_reading.specs.Prefix.{prefix_at};
+ghost use Rattle.wasm_read.specs.declared.fault.Fault.TheVariants.{NotWasm};
+ghost use Rattle.wasm_read.specs.Sections.{Answers, contents_at, stores_at, parts_at, module_at};
 
-use crate::fault::{Fault, ReadFault, Stop};
+use crate::fault::{Fault, ReadFault};
 use crate::part::{
     DataSegments, Elements, Exports, FunctionTypes, Globals, Imports, Indices, Memories, Tables,
 };
 use crate::section::{read_code_section, read_end, read_section, read_start};
+use exact_reading::Stop;
 use mo_num::Sequence;
 use std::alloc::Global;
 use wasm_tree::{
@@ -36,7 +39,7 @@ struct Stores {
 }
 
 #[tactic(auto, unfolding(crate::specs::Sections::contents_at))]
-fn read_contents(alloc: Global, signatures: &[u32], bytes: &[u8]) -> Result<Contents, Stop>
+fn read_contents(alloc: Global, signatures: &[u32], bytes: &[u8]) -> Result<Contents, Stop<Fault>>
     ensures { Gives (λ x. (x.start, (x.elements, (x.functions, (x.segments, tt))))) result (contents_at signatures.now bytes.now) }
 {
     let (start, rest) = read_start(bytes)?;
@@ -53,7 +56,7 @@ fn read_contents(alloc: Global, signatures: &[u32], bytes: &[u8]) -> Result<Cont
 }
 
 #[tactic(auto, unfolding(crate::specs::Sections::stores_at))]
-fn read_stores(alloc: Global, signatures: &[u32], bytes: &[u8]) -> Result<Stores, Stop>
+fn read_stores(alloc: Global, signatures: &[u32], bytes: &[u8]) -> Result<Stores, Stop<Fault>>
     ensures { Gives (λ x. (x.tables, (x.memories, (x.globals, (x.exports, (x.contents.start, (x.contents.elements, (x.contents.functions, (x.contents.segments, tt))))))))) result (stores_at signatures.now bytes.now) }
 {
     let (tables, rest) = read_section::<Limits, Tables>(alloc, 4, bytes)?;
@@ -71,7 +74,7 @@ fn read_stores(alloc: Global, signatures: &[u32], bytes: &[u8]) -> Result<Stores
 }
 
 #[tactic(auto, unfolding(crate::specs::Sections::sections_at))]
-fn read_sections(alloc: Global, bytes: &[u8]) -> Result<Module, Stop>
+fn read_sections(alloc: Global, bytes: &[u8]) -> Result<Module, Stop<Fault>>
     ensures { Gives (λ x. x) result (parts_at bytes.now) }
 {
     let (types, rest) = read_section::<FunctionType, FunctionTypes>(alloc, 1, bytes)?;
@@ -106,7 +109,7 @@ fn read_sections(alloc: Global, bytes: &[u8]) -> Result<Module, Stop>
 
 /// What comes after the header.
 fn read_header(bytes: &[u8]) -> Result<&[u8], Fault>
-    ensures { Tells (λ x. x.now) result (without header bytes.now) }
+    ensures { Tells (λ x. x.now) result (prefix_at NotWasm NotWasm header bytes.now) }
 {
     match bytes {
         [0x00, 0x61, 0x73, 0x6d, 0x01, 0x00, 0x00, 0x00, rest @ ..] => Ok(rest),
@@ -118,7 +121,7 @@ fn read_header(bytes: &[u8]) -> Result<&[u8], Fault>
 pub const LARGEST_MODULE: usize = 67_108_864;
 
 #[tactic(auto, unfolding(crate::specs::Sections::module_at))]
-fn read_module(alloc: Global, bytes: &[u8]) -> Result<Module, Stop>
+fn read_module(alloc: Global, bytes: &[u8]) -> Result<Module, Stop<Fault>>
     ensures { Gives (λ x. x) result (module_at bytes.now) }
 {
     if bytes.len() > LARGEST_MODULE {

@@ -1,12 +1,13 @@
 //! Sections (WebAssembly Core 1.0, section 5.5.2).
 ghost use Rattle.std.specs.Prelude.{◌≡◌, length};
-ghost use Rattle.wasm_read.specs.Fields.{Tells, Gives};
+ghost use Rattle.exact_reading.specs.Reading.{Tells, Gives};
 ghost use Rattle.wasm_read.specs.Sections.{customs, skip_at, skip_by, seen_one, after_custom, seen, finished, opened, opened_by, vectors_at, start_at, code_section_at, ends};
 
 use crate::code::read_codes;
-use crate::fault::{Fault, Stop};
+use crate::fault::Fault;
 use crate::number::{name_slice, read_slice, read_u32};
 use crate::vector::{Item, read_vector};
+use exact_reading::Stop;
 use mo_num::Sequence;
 use std::alloc::Global;
 use wasm_tree::Function;
@@ -95,7 +96,7 @@ pub fn read_section<T: Drop, I: Item<T>>(
     alloc: Global,
     number: u8,
     bytes: &[u8],
-) -> Result<(Sequence<T>, &[u8]), Stop>
+) -> Result<(Sequence<T>, &[u8]), Stop<Fault>>
     ensures { Gives (λ x. (x.0, x.1.now)) result (vectors_at number I.at bytes.now) }
 {
     let rest = skip_customs(bytes)?;
@@ -131,7 +132,7 @@ pub fn read_code_section<'a>(
     alloc: Global,
     signatures: &[u32],
     bytes: &'a [u8],
-) -> Result<(Sequence<Function>, &'a [u8]), Stop>
+) -> Result<(Sequence<Function>, &'a [u8]), Stop<Fault>>
     ensures { Gives (λ x. (x.0, x.1.now)) result (code_section_at signatures.now bytes.now) }
 {
     let rest = skip_customs(bytes)?;

@@ -5,7 +5,7 @@ use wasm_tree::{
 };
 
 /// What follows a first byte.
-#[derive(Clone, Copy, Debug, PartialEq, Eq)]
+#[derive(Clone, Copy)]
 pub enum Shape {
     /// Nothing: the byte is all of this instruction.
     Whole(Op),

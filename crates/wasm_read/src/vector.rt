@@ -1,10 +1,12 @@
 //! Vectors (WebAssembly Core 1.0, section 5.1.3): so much memory is taken as was read, whatever their count says.
 ghost use Rattle.std.specs.Prelude.{◌≡◌, ℕ, List, Result};
 ghost use Rattle.wasm_read.specs.declared.fault.Fault.{Fault};
-ghost use Rattle.wasm_read.specs.Fields.{Gives, each_at, vector_at};
+ghost use Rattle.exact_reading.specs.Reading.{Gives};
+ghost use Rattle.wasm_read.specs.Fields.{each_at, vector_at};
 
-use crate::fault::Stop;
+use crate::fault::Fault;
 use crate::number::read_u32;
+use exact_reading::Stop;
 use mo_num::Sequence;
 use std::alloc::Global;
 
@@ -13,7 +15,7 @@ pub trait Item<T> {
     ghost at: { List ℕ → Result (T × List ℕ) Fault };
 
     /// The item at the front, and what comes after it.
-    fn read_item(alloc: Global, bytes: &[u8]) -> Result<(T, &[u8]), Stop>
+    fn read_item(alloc: Global, bytes: &[u8]) -> Result<(T, &[u8]), Stop<Fault>>
         ensures { Gives (λ x. (x.0, x.1.now)) result (at bytes.now) };
 }
 
@@ -21,7 +23,7 @@ fn read_each<T: Drop, I: Item<T>>(
     alloc: Global,
     count: u32,
     bytes: &[u8],
-) -> Result<(Vec<T>, &[u8]), Stop>
+) -> Result<(Vec<T>, &[u8]), Stop<Fault>>
     ensures { Gives (λ x. (x.0.items, x.1.now)) result (each_at I.at count bytes.now) }
 {
     let mut items = Vec::new(alloc);
@@ -38,7 +40,7 @@ fn read_each<T: Drop, I: Item<T>>(
 pub fn read_vector<T: Drop, I: Item<T>>(
     alloc: Global,
     bytes: &[u8],
-) -> Result<(Sequence<T>, &[u8]), Stop>
+) -> Result<(Sequence<T>, &[u8]), Stop<Fault>>
     ensures { Gives (λ x. (x.0, x.1.now)) result (vector_at I.at bytes.now) }
 {
     let (count, rest) = read_u32(bytes)?;

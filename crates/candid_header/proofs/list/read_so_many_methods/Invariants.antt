@@ -1,7 +1,7 @@
 use Rattle.std.proofs.Common.{◌≡◌, ◌-◌, None}
 use Rattle.candid_header.specs.Reading.{many}
 use Rattle.candid_header.specs.Table.{method_at, name_of, last_name}
-use Rattle.candid_header.proofs.Many.{with_front}
+use Rattle.exact_reading.proofs.Loops.{with_front}
 use Rattle.candid_header.proofs.list.read_so_many_methods.Given as goal
 
 abbrev pub invariant-loop : goal.invariant-loop

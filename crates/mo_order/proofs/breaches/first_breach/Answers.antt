@@ -1,8 +1,8 @@
 use Rattle.std.proofs.Common.{List, get_or, refl, subst}
 use Rattle.std.proofs.lemmas.List.{take_all}
-use Rattle.mo_names.specs.declared.finding.Finding.{Finding}
-use Rattle.mo_names.specs.declared.finding.Finding.TheVariants as finding
-use Rattle.mo_names.specs.declared.meaning.Meaning.TheVariants as meaning
+use Rattle.mo_scopes.specs.declared.finding.Finding.{Finding}
+use Rattle.mo_scopes.specs.declared.finding.Finding.TheVariants as finding
+use Rattle.mo_scopes.specs.declared.meaning.Meaning.TheVariants as meaning
 use Rattle.mo_order.specs.Breaches.{FirstOf, FoundOrEarly}
 use Rattle.mo_order.proofs.Judging.{found_more}
 use Rattle.mo_order.proofs.breaches.first_breach.Goals as goal

@@ -4,7 +4,7 @@ use Rattle.std.specs.Str.{bytes_eq}
 use Rattle.std.proofs.lemmas.List.{map-append}
 use Rattle.indexmap.specs.IndexMap.{get_by}
 use Rattle.mo_name_table.specs.Places.{texts}
-use Rattle.mo_names.specs.Findings.{Names, Texts}
+use Rattle.mo_scopes.specs.Findings.{Names, Texts}
 use Rattle.mo_order.specs.Calls.{functions_at}
 use Rattle.mo_order.proofs.Noting.{added, same_bytes}
 use Rattle.mo_order.proofs.calls.add.Goals as goal

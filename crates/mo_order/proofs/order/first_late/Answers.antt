@@ -1,6 +1,6 @@
 use Rattle.std.proofs.Common.{subst}
 use Rattle.std.proofs.lemmas.List.{take_all}
-use Rattle.mo_names.specs.Findings.{Names}
+use Rattle.mo_scopes.specs.Findings.{Names}
 use Rattle.mo_order.specs.Early.{LateAt}
 use Rattle.mo_order.specs.Least.{LeastOf, OneOf}
 use Rattle.mo_order.proofs.Looking.{late_none, late_more}

@@ -1,6 +1,6 @@
 use Rattle.std.proofs.Common.{◌≡◌, ◌∷◌, [], ◌∙◌, sym, subst, Some, true, false}
 use Rattle.mo_syntax.specs.declared.place.Place.{Place}
-use Rattle.mo_names.specs.Findings.{contains}
+use Rattle.mo_scopes.specs.Findings.{contains}
 use Rattle.mo_order.specs.Early.{LateAt}
 use Rattle.mo_order.specs.Least.{LeastOf}
 use Rattle.mo_order.proofs.Looking.{late_here, late_absent}

@@ -1,4 +1,4 @@
-use Rattle.mo_names.specs.Findings.{Texts}
+use Rattle.mo_scopes.specs.Findings.{Texts}
 use Rattle.mo_order.specs.Reach.{Reached}
 use Rattle.mo_order.proofs.reach.close.Given as goal
 

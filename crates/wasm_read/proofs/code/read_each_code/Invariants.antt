@@ -1,6 +1,6 @@
 use Rattle.std.proofs.Common.{◌≡◌, drop}
 use Rattle.wasm_read.specs.Parts.{codes_at}
-use Rattle.wasm_read.proofs.Loops.{with_front}
+use Rattle.exact_reading.proofs.Loops.{with_front}
 use Rattle.wasm_read.proofs.code.read_each_code.Given as goal
 
 abbrev pub invariant-loop-signature : goal.invariant-loop-signature

@@ -1,9 +1,10 @@
 use Rattle.std.proofs.Common.{◌≡◌, ◌-◌, [], length, arith}
 use Rattle.std.specs.Prelude.{reverse}
 use Rattle.std.proofs.lemmas.Result.{err_from_is_err_and}
-use Rattle.wasm_read.specs.declared.fault.Stop.TheVariants as stop
+use Rattle.exact_reading.specs.declared.stop.Stop.TheVariants as stop
 use Rattle.wasm_read.specs.Codes.{body_at, expression_at}
-use Rattle.wasm_read.proofs.Loops.{unframed, faults, goes_on, closes, stops, runs_out}
+use Rattle.exact_reading.proofs.Loops.{unframed}
+use Rattle.wasm_read.proofs.Loops.{faults, goes_on, closes, stops, runs_out}
 use Rattle.wasm_read.proofs.expression.read_ops.Goals as goal
 
 pub returns-in_err-next : goal.returns-in_err-next

@@ -1,6 +1,6 @@
 use Rattle.std.proofs.Common.{◌≡◌, ◌-◌}
+use Rattle.exact_reading.proofs.Loops.{with_front}
 use Rattle.wasm_read.specs.Fields.{each_at}
-use Rattle.wasm_read.proofs.Loops.{with_front}
 use Rattle.wasm_read.proofs.vector.read_each.Given as goal
 
 abbrev pub invariant-loop : goal.invariant-loop

@@ -1,6 +1,0 @@
-use Rattle.std.proofs.Common.{◌≡◌, ◌++◌}
-use Rattle.mo_name_table.specs.Places.{texts}
-use Rattle.mo_names.proofs.scope.append.Given as goal
-
-abbrev pub invariant-loop-name : goal.invariant-loop-name
-invariant-loop-name l = l.table ≡ l.initial.table ++ texts l.yielded

@@ -1,7 +1,0 @@
-use Rattle.std.proofs.Common.{◌≡◌, ◌++◌, drop}
-use Rattle.std.specs.List.{flat_map}
-use Rattle.mo_names.specs.ProgramNames.{field_types}
-use Rattle.mo_names.proofs.walk.Walk.all_types.Given as goal
-
-abbrev pub invariant-loop-one : goal.invariant-loop-one
-invariant-loop-one l = flat_map field_types l.fields ≡ l.names ++ flat_map field_types (drop l.one-index l.fields)

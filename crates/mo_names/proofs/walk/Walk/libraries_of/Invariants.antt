@@ -1,6 +1,0 @@
-use Rattle.std.proofs.Common.{◌≡◌, ◌++◌, drop, map}
-use Rattle.mo_names.specs.Scopes.{library_of}
-use Rattle.mo_names.proofs.walk.Walk.libraries_of.Given as goal
-
-abbrev pub invariant-loop-one : goal.invariant-loop-one
-invariant-loop-one l = map (λ x. library_of x.path) l.imports ≡ l.libraries ++ map (λ x. library_of x.path) (drop l.one-index l.imports)

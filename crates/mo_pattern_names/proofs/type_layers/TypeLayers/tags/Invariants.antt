@@ -1,0 +1,8 @@
+use Rattle.std.proofs.Common.{◌≡◌, ◌++◌, drop, map}
+use Rattle.mo_pattern_names.specs.TypeNames.{in_type_tag, each_entry, names_of}
+use Rattle.mo_pattern_names.proofs.type_layers.TypeLayers.tags.Given as goal
+
+abbrev pub invariant-loop-one : goal.invariant-loop-one
+invariant-loop-one g l =
+    (l.initial.found ++ each_entry (map in_type_tag l.tags) l.scope ≡ l.found ++ each_entry (map in_type_tag (drop l.one-index l.tags)) l.scope)
+    × (names_of (map in_type_tag l.tags) ≡ l.names ++ names_of (map in_type_tag (drop l.one-index l.tags)))

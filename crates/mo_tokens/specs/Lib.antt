@@ -1,0 +1,3 @@
+pub mod PartWriting
+pub mod TypeWrites
+pub mod Writes
