@@ -4,6 +4,7 @@
 mod expression_places;
 mod front;
 mod lexing;
+mod meanings;
 mod naming;
 mod parsing;
 mod pattern_places;

@@ -1,6 +1,7 @@
 //! What the names of a source mean, or the rule that is broken.
+use crate::meanings::meaning_lines;
 use crate::reading::tree_of;
-use mo_names::{Finding, Meaning, NameFault, find_names};
+use mo_names::{Finding, NameFault, find_names};
 use mo_order::{first_misplaced, resolve};
 use mo_syntax::Place;
 use probe_base::Stop;
@@ -28,14 +29,6 @@ fn fault_line(alloc: Global, fault: NameFault) -> Result<String, Stop> {
     let (kind, place) = kind_and_place(fault)?;
     let mut out = format!(in alloc; "{kind} ")?;
     put_place(alloc, &mut out, place)?;
-    Ok(out)
-}
-
-fn meaning_lines(alloc: Global, meanings: &[Meaning]) -> Result<String, AllocError> {
-    let mut out = String::new(alloc);
-    for meaning in meanings {
-        out.push_str(format!(in alloc; "{meaning:?}\n")?.as_str())?;
-    }
     Ok(out)
 }
 
