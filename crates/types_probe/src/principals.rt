@@ -5,13 +5,14 @@ use std::alloc::Global;
 
 // The bytes of a principal and of its copy, or the line `none`.
 fn line(alloc: Global, principal: Option<Principal>) -> Result<String, Stop> {
-    match principal {
-        None => Ok(String::from_str(alloc, "none\n")?),
-        Some(principal) if principal == principal.copy() => hex_line(
-            alloc,
-            principal.copy().bytes(),
-        ),
-        Some(_) => Err(Stop::Usage),
+    let Some(principal) = principal else {
+        return Ok(String::from_str(alloc, "none\n")?);
+    };
+    let copy = principal.copy();
+    if principal == copy {
+        hex_line(alloc, copy.bytes())
+    } else {
+        Err(Stop::Usage)
     }
 }
 
