@@ -2,9 +2,11 @@
 #![tactic(auto)]
 
 mod cursor;
+mod lists;
 mod look;
 mod stop;
 
 pub use cursor::{Cursor, same_mark};
+pub use lists::{read_commas, read_semicolons, read_some_semicolons};
 pub use look::Look;
 pub use stop::Stop;

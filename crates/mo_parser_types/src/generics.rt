@@ -8,7 +8,7 @@ ghost use Rattle.mo_syntax.specs.declared.token.TokenKind.{TokenKind};
 ghost use Rattle.mo_syntax.specs.declared.mark.Mark.{Mark};
 
 use crate::start::a_type;
-use mo_parser_base::{Cursor, Stop};
+use mo_parser_base::{Cursor, Stop, read_commas};
 use mo_syntax::{Items, Mark, Name, Node, TypeExpression, TypeParameter};
 use std::alloc::Global;
 
@@ -30,60 +30,6 @@ fn bound(alloc: Global, tokens: &mut Cursor<'_>) -> Result<Option<Node<TypeExpre
     Ok(Some(a_type(alloc, tokens)?))
 }
 
-#[tactic(auto, unfolding(mo_parser_base::specs::Input::commas))]
-fn parameters(alloc: Global, tokens: &mut Cursor<'_>) -> Result<Items<TypeParameter>, Stop>
-    ensures { Reads (input.commas spec.parameter (TokenKind.Mark Mark.AngleClose) tokens.old) result tokens.new }
-{
-    let mut found = Items::new(alloc);
-    if tokens.eat_mark(Mark::AngleClose) {
-        return Ok(found);
-    }
-    for _turn in 0..tokens.left() {
-        found.push(parameter(alloc, tokens)?)?;
-        if !tokens.eat_mark(Mark::Comma) {
-            tokens.expect_mark(Mark::AngleClose)?;
-            return Ok(found);
-        }
-    }
-    Err(Stop::Refused)
-}
-
-#[tactic(auto, unfolding(mo_parser_base::specs::Input::commas))]
-fn arguments(alloc: Global, tokens: &mut Cursor<'_>) -> Result<Items<Node<TypeExpression>>, Stop>
-    ensures { Reads (input.commas a_type (TokenKind.Mark Mark.AngleClose) tokens.old) result tokens.new }
-{
-    let mut found = Items::new(alloc);
-    if tokens.eat_mark(Mark::AngleClose) {
-        return Ok(found);
-    }
-    for _turn in 0..tokens.left() {
-        found.push(a_type(alloc, tokens)?)?;
-        if !tokens.eat_mark(Mark::Comma) {
-            tokens.expect_mark(Mark::AngleClose)?;
-            return Ok(found);
-        }
-    }
-    Err(Stop::Refused)
-}
-
-#[tactic(auto, unfolding(mo_parser_base::specs::Input::commas))]
-fn names(alloc: Global, tokens: &mut Cursor<'_>) -> Result<Items<Name>, Stop>
-    ensures { Reads (input.commas input.identifier (TokenKind.Mark Mark.AngleClose) tokens.old) result tokens.new }
-{
-    let mut found = Items::new(alloc);
-    if tokens.eat_mark(Mark::AngleClose) {
-        return Ok(found);
-    }
-    for _turn in 0..tokens.left() {
-        found.push(tokens.identifier(alloc)?)?;
-        if !tokens.eat_mark(Mark::Comma) {
-            tokens.expect_mark(Mark::AngleClose)?;
-            return Ok(found);
-        }
-    }
-    Err(Stop::Refused)
-}
-
 /// Type parameters in `< >`, or none.
 #[tactic(auto, unfolding(crate::specs::Generics::type_parameters))]
 pub fn read_type_parameters(
@@ -95,7 +41,8 @@ pub fn read_type_parameters(
     if !tokens.eat_mark(Mark::AngleOpen) {
         return Ok(None);
     }
-    Ok(Some(parameters(alloc, tokens)?))
+    let found = read_commas(alloc, tokens, Mark::AngleClose, |tokens| parameter(alloc, tokens))?;
+    Ok(Some(found))
 }
 
 /// Types in `< >`, or none.
@@ -109,7 +56,8 @@ pub fn read_type_arguments(
     if !tokens.eat_mark(Mark::AngleOpen) {
         return Ok(None);
     }
-    Ok(Some(arguments(alloc, tokens)?))
+    let found = read_commas(alloc, tokens, Mark::AngleClose, |tokens| a_type(alloc, tokens))?;
+    Ok(Some(found))
 }
 
 /// Names in `< >`, or none.
@@ -120,5 +68,6 @@ pub fn read_type_names(alloc: Global, tokens: &mut Cursor<'_>) -> Result<Option<
     if !tokens.eat_mark(Mark::AngleOpen) {
         return Ok(None);
     }
-    Ok(Some(names(alloc, tokens)?))
+    let found = read_commas(alloc, tokens, Mark::AngleClose, |tokens| tokens.identifier(alloc))?;
+    Ok(Some(found))
 }
