@@ -4,7 +4,7 @@ ghost use Rattle.mo_parser_base.specs.Input.{Reads};
 ghost use Rattle.mo_parser_programs.specs.Programs as spec;
 
 use crate::functions::shared_function;
-use mo_parser_base::{Cursor, Look, Stop};
+use mo_parser_base::{Cursor, Look, Stop, read_semicolons};
 use mo_parser_expressions::{read_body, read_declaration, read_expression};
 use mo_parser_types::read_annotation;
 use mo_syntax::{ActorField, Items, Mark, Name, Node, SharedFunction, Word};
@@ -106,26 +106,12 @@ fn a_field(alloc: Global, tokens: &mut Cursor<'_>) -> Result<Node<ActorField>, S
 }
 
 /// The fields up to the closing brace, which is taken, and whether a `;` ends them.
-#[tactic(auto, unfolding(mo_parser_programs::specs::Programs::actor_fields, mo_parser_base::specs::Input::semicolons))]
+#[tactic(auto, unfolding(mo_parser_programs::specs::Programs::actor_fields))]
 pub(crate) fn actor_fields(
     alloc: Global,
     tokens: &mut Cursor<'_>,
 ) -> Result<(Items<Node<ActorField>>, bool), Stop>
     ensures { Reads (spec.actor_fields tokens.old) result tokens.new }
 {
-    let mut found = Items::new(alloc);
-    if tokens.eat_mark(Mark::BraceClose) {
-        return Ok((found, false));
-    }
-    for _turn in 0..tokens.left() {
-        found.push(a_field(alloc, tokens)?)?;
-        if !tokens.eat_mark(Mark::Semicolon) {
-            tokens.expect_mark(Mark::BraceClose)?;
-            return Ok((found, false));
-        }
-        if tokens.eat_mark(Mark::BraceClose) {
-            return Ok((found, true));
-        }
-    }
-    Err(Stop::Refused)
+    read_semicolons(alloc, tokens, |tokens| a_field(alloc, tokens))
 }

@@ -9,7 +9,7 @@ ghost use Rattle.mo_syntax.specs.declared.mark.Mark.{Mark};
 ghost use Rattle.mo_syntax.specs.declared.token.TokenKind.{TokenKind};
 
 use crate::grammar::Grammar;
-use mo_parser_base::{Cursor, Stop};
+use mo_parser_base::{Cursor, Stop, read_commas, read_semicolons};
 use mo_syntax::{
     Case, Declaration, DeclarationField, Expression, ExpressionField, Items, Mark, Node,
 };
@@ -19,47 +19,32 @@ impl<
     F: Fn(Global, &mut Cursor<'_>, usize, u8) -> Result<Node<Expression>, Stop>,
     G: Fn(Global, &mut Cursor<'_>, usize) -> Result<Node<Declaration>, Stop>,
 > Grammar<F, G> {
-    #[tactic(auto, unfolding(mo_parser_base::specs::Input::commas))]
     pub(crate) fn arguments(&self, tokens: &mut Cursor<'_>) -> Result<Items<Node<Expression>>, Stop>
         requires nests { Nests self.now.depth (F.pre self.now.inner) (F.post self.now.inner) }
         requires declares { Declares self.now.depth (G.pre self.now.declared) (G.post self.now.declared) }
         ensures { Reads (input.commas (spec.expression_at self.now.depth 0) (TokenKind.Mark Mark.ParenClose) tokens.old) result tokens.new }
     {
-        let mut found = Items::new(self.alloc);
-        if tokens.eat_mark(Mark::ParenClose) {
-            return Ok(found);
-        }
-        for _turn in 0..tokens.left() {
-            found.push(self.inner(tokens, 0)?)?;
-            if !tokens.eat_mark(Mark::Comma) {
-                tokens.expect_mark(Mark::ParenClose)?;
-                return Ok(found);
-            }
-        }
-        Err(Stop::Refused)
+        read_commas(
+            self.alloc,
+            tokens,
+            Mark::ParenClose,
+            |tokens| self.inner(tokens, 0),
+        )
     }
 
-    #[tactic(auto, unfolding(mo_parser_base::specs::Input::commas))]
     pub(crate) fn elements(&self, tokens: &mut Cursor<'_>) -> Result<Items<Node<Expression>>, Stop>
         requires nests { Nests self.now.depth (F.pre self.now.inner) (F.post self.now.inner) }
         requires declares { Declares self.now.depth (G.pre self.now.declared) (G.post self.now.declared) }
         ensures { Reads (input.commas (spec.expression_at self.now.depth 0) (TokenKind.Mark Mark.BracketClose) tokens.old) result tokens.new }
     {
-        let mut found = Items::new(self.alloc);
-        if tokens.eat_mark(Mark::BracketClose) {
-            return Ok(found);
-        }
-        for _turn in 0..tokens.left() {
-            found.push(self.inner(tokens, 0)?)?;
-            if !tokens.eat_mark(Mark::Comma) {
-                tokens.expect_mark(Mark::BracketClose)?;
-                return Ok(found);
-            }
-        }
-        Err(Stop::Refused)
+        read_commas(
+            self.alloc,
+            tokens,
+            Mark::BracketClose,
+            |tokens| self.inner(tokens, 0),
+        )
     }
 
-    #[tactic(auto, unfolding(mo_parser_base::specs::Input::semicolons))]
     pub(crate) fn declarations(
         &self,
         tokens: &mut Cursor<'_>,
@@ -68,24 +53,10 @@ impl<
         requires declares { Declares self.now.depth (G.pre self.now.declared) (G.post self.now.declared) }
         ensures { Reads (input.semicolons (spec.declaration_at self.now.depth) tokens.old) result tokens.new }
     {
-        let mut found = Items::new(self.alloc);
-        if tokens.eat_mark(Mark::BraceClose) {
-            return Ok((found, false));
-        }
-        for _turn in 0..tokens.left() {
-            found.push(self.declared(tokens)?)?;
-            if !tokens.eat_mark(Mark::Semicolon) {
-                tokens.expect_mark(Mark::BraceClose)?;
-                return Ok((found, false));
-            }
-            if tokens.eat_mark(Mark::BraceClose) {
-                return Ok((found, true));
-            }
-        }
-        Err(Stop::Refused)
+        read_semicolons(self.alloc, tokens, |tokens| self.declared(tokens))
     }
 
-    #[tactic(auto, unfolding(crate::specs::Expressions::members, mo_parser_base::specs::Input::semicolons))]
+    #[tactic(auto, unfolding(crate::specs::Expressions::members))]
     pub(crate) fn members(
         &self,
         tokens: &mut Cursor<'_>,
@@ -94,47 +65,17 @@ impl<
         requires declares { Declares self.now.depth (G.pre self.now.declared) (G.post self.now.declared) }
         ensures { Reads (spec.members (spec.expression_at self.now.depth) (spec.declaration_at self.now.depth) tokens.old) result tokens.new }
     {
-        let mut found = Items::new(self.alloc);
-        if tokens.eat_mark(Mark::BraceClose) {
-            return Ok((found, false));
-        }
-        for _turn in 0..tokens.left() {
-            found.push(self.member(tokens)?)?;
-            if !tokens.eat_mark(Mark::Semicolon) {
-                tokens.expect_mark(Mark::BraceClose)?;
-                return Ok((found, false));
-            }
-            if tokens.eat_mark(Mark::BraceClose) {
-                return Ok((found, true));
-            }
-        }
-        Err(Stop::Refused)
+        read_semicolons(self.alloc, tokens, |tokens| self.member(tokens))
     }
 
-    #[tactic(auto, unfolding(mo_parser_base::specs::Input::semicolons))]
     pub(crate) fn cases(&self, tokens: &mut Cursor<'_>) -> Result<(Items<Node<Case>>, bool), Stop>
         requires nests { Nests self.now.depth (F.pre self.now.inner) (F.post self.now.inner) }
         requires declares { Declares self.now.depth (G.pre self.now.declared) (G.post self.now.declared) }
         ensures { Reads (input.semicolons (spec.one_case (spec.expression_at self.now.depth) (spec.declaration_at self.now.depth)) tokens.old) result tokens.new }
     {
-        let mut found = Items::new(self.alloc);
-        if tokens.eat_mark(Mark::BraceClose) {
-            return Ok((found, false));
-        }
-        for _turn in 0..tokens.left() {
-            found.push(self.one_case(tokens)?)?;
-            if !tokens.eat_mark(Mark::Semicolon) {
-                tokens.expect_mark(Mark::BraceClose)?;
-                return Ok((found, false));
-            }
-            if tokens.eat_mark(Mark::BraceClose) {
-                return Ok((found, true));
-            }
-        }
-        Err(Stop::Refused)
+        read_semicolons(self.alloc, tokens, |tokens| self.one_case(tokens))
     }
 
-    #[tactic(auto, unfolding(mo_parser_base::specs::Input::semicolons))]
     pub(crate) fn entries(
         &self,
         tokens: &mut Cursor<'_>,
@@ -143,20 +84,6 @@ impl<
         requires declares { Declares self.now.depth (G.pre self.now.declared) (G.post self.now.declared) }
         ensures { Reads (input.semicolons (spec.entry (spec.expression_at self.now.depth) (spec.declaration_at self.now.depth)) tokens.old) result tokens.new }
     {
-        let mut found = Items::new(self.alloc);
-        if tokens.eat_mark(Mark::BraceClose) {
-            return Ok((found, false));
-        }
-        for _turn in 0..tokens.left() {
-            found.push(self.entry(tokens)?)?;
-            if !tokens.eat_mark(Mark::Semicolon) {
-                tokens.expect_mark(Mark::BraceClose)?;
-                return Ok((found, false));
-            }
-            if tokens.eat_mark(Mark::BraceClose) {
-                return Ok((found, true));
-            }
-        }
-        Err(Stop::Refused)
+        read_semicolons(self.alloc, tokens, |tokens| self.entry(tokens))
     }
 }

@@ -8,31 +8,23 @@ ghost use Rattle.mo_syntax.specs.declared.token.TokenKind.{TokenKind};
 ghost use Rattle.mo_syntax.specs.declared.mark.Mark.{Mark};
 
 use crate::grammar::Grammar;
-use mo_parser_base::{Cursor, Stop};
+use mo_parser_base::{Cursor, Stop, read_commas, read_semicolons};
 use mo_syntax::{Items, Mark, Node, Pattern, PatternField, Word};
 use std::alloc::Global;
 
 impl<F: Fn(Global, &mut Cursor<'_>, usize, u8) -> Result<Node<Pattern>, Stop>> Grammar<F> {
-    #[tactic(auto, unfolding(mo_parser_base::specs::Input::commas))]
     pub(crate) fn patterns(&self, tokens: &mut Cursor<'_>) -> Result<Items<Node<Pattern>>, Stop>
         requires { Nests self.now.depth (F.pre self.now.inner) (F.post self.now.inner) }
         ensures { Reads (input.commas (spec.pattern_at self.now.depth 0) (TokenKind.Mark Mark.ParenClose) tokens.old) result tokens.new }
     {
-        let mut found = Items::new(self.alloc);
-        if tokens.eat_mark(Mark::ParenClose) {
-            return Ok(found);
-        }
-        for _turn in 0..tokens.left() {
-            found.push(self.inner(tokens, 0)?)?;
-            if !tokens.eat_mark(Mark::Comma) {
-                tokens.expect_mark(Mark::ParenClose)?;
-                return Ok(found);
-            }
-        }
-        Err(Stop::Refused)
+        read_commas(
+            self.alloc,
+            tokens,
+            Mark::ParenClose,
+            |tokens| self.inner(tokens, 0),
+        )
     }
 
-    #[tactic(auto, unfolding(mo_parser_base::specs::Input::semicolons))]
     pub(crate) fn fields(
         &self,
         tokens: &mut Cursor<'_>,
@@ -40,21 +32,7 @@ impl<F: Fn(Global, &mut Cursor<'_>, usize, u8) -> Result<Node<Pattern>, Stop>> G
         requires { Nests self.now.depth (F.pre self.now.inner) (F.post self.now.inner) }
         ensures { Reads (input.semicolons (spec.field (spec.pattern_at self.now.depth)) tokens.old) result tokens.new }
     {
-        let mut found = Items::new(self.alloc);
-        if tokens.eat_mark(Mark::BraceClose) {
-            return Ok((found, false));
-        }
-        for _turn in 0..tokens.left() {
-            found.push(self.field(tokens)?)?;
-            if !tokens.eat_mark(Mark::Semicolon) {
-                tokens.expect_mark(Mark::BraceClose)?;
-                return Ok((found, false));
-            }
-            if tokens.eat_mark(Mark::BraceClose) {
-                return Ok((found, true));
-            }
-        }
-        Err(Stop::Refused)
+        read_semicolons(self.alloc, tokens, |tokens| self.field(tokens))
     }
 
     #[tactic(auto, unfolding(crate::specs::Patterns::alternatives))]

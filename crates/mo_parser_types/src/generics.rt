@@ -41,7 +41,12 @@ pub fn read_type_parameters(
     if !tokens.eat_mark(Mark::AngleOpen) {
         return Ok(None);
     }
-    let found = read_commas(alloc, tokens, Mark::AngleClose, |tokens| parameter(alloc, tokens))?;
+    let found = read_commas(
+        alloc,
+        tokens,
+        Mark::AngleClose,
+        |tokens| parameter(alloc, tokens),
+    )?;
     Ok(Some(found))
 }
 
@@ -56,7 +61,12 @@ pub fn read_type_arguments(
     if !tokens.eat_mark(Mark::AngleOpen) {
         return Ok(None);
     }
-    let found = read_commas(alloc, tokens, Mark::AngleClose, |tokens| a_type(alloc, tokens))?;
+    let found = read_commas(
+        alloc,
+        tokens,
+        Mark::AngleClose,
+        |tokens| a_type(alloc, tokens),
+    )?;
     Ok(Some(found))
 }
 
@@ -68,6 +78,11 @@ pub fn read_type_names(alloc: Global, tokens: &mut Cursor<'_>) -> Result<Option<
     if !tokens.eat_mark(Mark::AngleOpen) {
         return Ok(None);
     }
-    let found = read_commas(alloc, tokens, Mark::AngleClose, |tokens| tokens.identifier(alloc))?;
+    let found = read_commas(
+        alloc,
+        tokens,
+        Mark::AngleClose,
+        |tokens| tokens.identifier(alloc),
+    )?;
     Ok(Some(found))
 }

@@ -17,14 +17,24 @@ impl<F: Fn(Global, &mut Cursor<'_>, usize, u8) -> Result<Node<TypeExpression>, S
         requires { Nests self.now.depth (F.pre self.now.inner) (F.post self.now.inner) }
         ensures { Reads (input.commas (spec.type_at self.now.depth 0) (TokenKind.Mark Mark.AngleClose) tokens.old) result tokens.new }
     {
-        read_commas(self.alloc, tokens, Mark::AngleClose, |tokens| self.inner(tokens, 0))
+        read_commas(
+            self.alloc,
+            tokens,
+            Mark::AngleClose,
+            |tokens| self.inner(tokens, 0),
+        )
     }
 
     pub(crate) fn items(&self, tokens: &mut Cursor<'_>) -> Result<Items<Node<TypeItem>>, Stop>
         requires { Nests self.now.depth (F.pre self.now.inner) (F.post self.now.inner) }
         ensures { Reads (input.commas (spec.item (spec.type_at self.now.depth)) (TokenKind.Mark Mark.ParenClose) tokens.old) result tokens.new }
     {
-        read_commas(self.alloc, tokens, Mark::ParenClose, |tokens| self.item(tokens))
+        read_commas(
+            self.alloc,
+            tokens,
+            Mark::ParenClose,
+            |tokens| self.item(tokens),
+        )
     }
 
     pub(crate) fn fields(

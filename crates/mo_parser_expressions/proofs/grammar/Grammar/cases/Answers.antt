@@ -1,42 +1,6 @@
-use Rattle.std.proofs.Common.{rules, arith}
-use Rattle.std.proofs.lemmas.Grind.{common_steps}
-use Rattle.mo_parser_base.specs.Input.{semicolons_from}
-use Rattle.mo_parser_base.proofs.Turns.{one_more, no_more}
+use Rattle.std.proofs.Common.{rules}
 use Rattle.mo_parser_expressions.specs.Expressions.{one_case, expression_at, declaration_at}
 use Rattle.mo_parser_expressions.proofs.grammar.Grammar.cases.Goals as goal
 
-pub returns-in_err-one_case : goal.returns-in_err-one_case
-unfolding semicolons_from
-returns-in_err-one_case g c =
-    let e = one_more (λ n. semicolons_from (one_case (expression_at c.args.self.now.depth) (declaration_at c.args.self.now.depth)) n c.loop-turn.found c.loop-turn.tokens) _ c.loop-turn._turn c.loop-turn-test.true c.loop-turn.invariant in
-    first_of (search rules, grind (arith, common_steps))
-
-pub returns-in_err-expect_mark : goal.returns-in_err-expect_mark
-unfolding semicolons_from
-returns-in_err-expect_mark g c =
-    let e = one_more (λ n. semicolons_from (one_case (expression_at c.args.self.now.depth) (declaration_at c.args.self.now.depth)) n c.loop-turn.found c.loop-turn.tokens) _ c.loop-turn._turn c.loop-turn-test.true c.loop-turn.invariant in
-    first_of (search rules, grind (arith, common_steps))
-
-pub returns-then-not-eat_mark : goal.returns-then-not-eat_mark
-unfolding semicolons_from
-returns-then-not-eat_mark g c =
-    let e = one_more (λ n. semicolons_from (one_case (expression_at c.args.self.now.depth) (declaration_at c.args.self.now.depth)) n c.loop-turn.found c.loop-turn.tokens) _ c.loop-turn._turn c.loop-turn-test.true c.loop-turn.invariant in
-    first_of (search rules, grind (arith, common_steps))
-
-pub returns-then-eat_mark-2 : goal.returns-then-eat_mark-2
-unfolding semicolons_from
-returns-then-eat_mark-2 g c =
-    let e = one_more (λ n. semicolons_from (one_case (expression_at c.args.self.now.depth) (declaration_at c.args.self.now.depth)) n c.loop-turn.found c.loop-turn.tokens) _ c.loop-turn._turn c.loop-turn-test.true c.loop-turn.invariant in
-    first_of (search rules, grind (arith, common_steps))
-
-pub loop-turn-preserved : goal.loop-turn-preserved
-unfolding semicolons_from
-loop-turn-preserved g c =
-    let e = one_more (λ n. semicolons_from (one_case (expression_at c.args.self.now.depth) (declaration_at c.args.self.now.depth)) n c.loop-turn.found c.loop-turn.tokens) _ c.loop-turn._turn c.loop-turn-test.true c.loop-turn.invariant in
-    first_of (search rules, grind (arith, common_steps))
-
 pub returns : goal.returns
-unfolding semicolons_from
-returns g c =
-    let e = no_more (λ n. semicolons_from (one_case (expression_at c.args.self.now.depth) (declaration_at c.args.self.now.depth)) n c.loop-turn.found c.loop-turn.tokens) _ c.loop-turn._turn c.loop-turn-test.false c.loop-turn.invariant in
-    first_of (search rules, grind (arith, common_steps))
+returns g c = c.read_semicolons.ensures (one_case (expression_at c.args.self.now.depth) (declaration_at c.args.self.now.depth)) (λ old new r e. search rules)
