@@ -1,4 +1,7 @@
 //! Why a command has no answer.
+ghost use Rattle.std.specs.Prelude.{◌≡◌};
+ghost use Rattle.probe_base.specs.declared.stop.Stop.{Stop};
+
 use mo_num::Memory;
 use outer::OutsideFault;
 use std::alloc::AllocError;
@@ -14,7 +17,10 @@ pub enum Stop {
 
 impl Stop {
     /// The exit status.
-    pub fn code(&self) -> u8 {
+    pub fn code(&self) -> u8
+        ensures usage { self.now ≡ Stop.Usage → result ≡ 2 }
+        ensures memory { self.now ≡ Stop.Memory → result ≡ 5 }
+    {
         match self {
             Stop::Usage => 2,
             Stop::Memory => 5,

@@ -1,4 +1,9 @@
 //! Words as numbers and bytes, and bytes as words and text.
+ghost use Rattle.std.specs.Prelude.{◌≡◌, ◌∷◌, ◌++◌, [], Ok, Err, IfOk, IsErr, codes, if◌then◌else◌};
+ghost use Rattle.std.specs.String.{string_bytes};
+ghost use Rattle.hex.specs.Hex.{decode_of, encode_lower};
+ghost use Rattle.probe_base.specs.declared.stop.Stop.{Stop};
+
 use crate::stop::Stop;
 use mo_num::Bytes;
 use std::alloc::{AllocError, Global};
@@ -19,7 +24,10 @@ where
 }
 
 /// The bytes of hexadecimal digits.
-pub fn bytes_of(alloc: Global, digits: &[u8]) -> Result<Bytes, Stop> {
+pub fn bytes_of(alloc: Global, digits: &[u8]) -> Result<Bytes, Stop>
+    ensures value { IfOk result (λ bytes. decode_of digits.now ≡ Ok bytes) }
+    ensures usage { result ≡ Err Stop.Usage → IsErr (decode_of digits.now) }
+{
     match hex::decode(alloc, digits) {
         Ok(list) => Ok(Bytes::from_vec(list)),
         Err(hex::FromHexError::OutOfMemory) => Err(Stop::Memory),
@@ -28,14 +36,18 @@ pub fn bytes_of(alloc: Global, digits: &[u8]) -> Result<Bytes, Stop> {
 }
 
 /// A line of the hexadecimal digits of bytes.
-pub fn hex_line(alloc: Global, bytes: &[u8]) -> Result<String, Stop> {
+pub fn hex_line(alloc: Global, bytes: &[u8]) -> Result<String, Stop>
+    ensures { IfOk result (λ line. string_bytes line ≡ encode_lower bytes.now ++ 10 ∷ []) }
+{
     let mut out = hex::encode(alloc, bytes)?;
     out.push('\n')?;
     Ok(out)
 }
 
 /// The line `yes` or `no`.
-pub fn yes_or_no(alloc: Global, answer: bool) -> Result<String, Stop> {
+pub fn yes_or_no(alloc: Global, answer: bool) -> Result<String, Stop>
+    ensures { IfOk result (λ line. string_bytes line ≡ (if answer then codes "yes\n" else codes "no\n")) }
+{
     Ok(String::from_str(alloc, if answer { "yes\n" } else { "no\n" })?)
 }
 
