@@ -1,7 +1,8 @@
 -- What one instruction adds.
 use Rattle.wasm_steps.specs.declared.step.Step.{Step}
 use Rattle.wasm_steps.specs.declared.step.Step.TheVariants as step
-use Rattle.std.proofs.Common.{◌≡◌, ℕ, ◌+◌, ◌<◌, ◌≤◌, List, [], ◌∷◌, ◌++◌, length, get_or, drop, Option, Some, None, sym, ap, ◌∙◌, append_assoc, length-append, add-one, Bool, true, false, arith}
+use Rattle.std.proofs.Common.{◌≡◌, ℕ, zero, suc, ◌+◌, ◌<◌, ◌≤◌, List, [], ◌∷◌, ◌++◌, length, get_or, drop, Option, Some, None, sym, ap, ◌∙◌, append_assoc, length-append, add-one, Bool, true, false, arith}
+use Rattle.std.specs.Prelude.{is_some}
 use Rattle.std.proofs.Math.Seq.{drop-cons}
 use Rattle.wasm_tree.specs.declared.op.Plain.{Plain}
 use Rattle.wasm_tree.specs.declared.op.Plain.TheVariants as plain
@@ -10,12 +11,13 @@ use Rattle.wasm_tree.specs.declared.op.Op.TheVariants as op
 use Rattle.wasm_tree.specs.Frames.{given}
 use Rattle.wasm_layout.specs.declared.arity.Arities.{Arities}
 use Rattle.wasm_layout.specs.declared.exits.Exits.{Exits}
+use Rattle.wasm_layout.specs.declared.pass.Open.{Open}
 use Rattle.wasm_layout.specs.declared.pass.Body.{Body}
 use Rattle.wasm_layout.specs.declared.pass.Pass.{Pass}
 use Rattle.wasm_layout.specs.Arities.{count_of, arity_at}
 use Rattle.wasm_layout.specs.Ends.{without_first, back, backs, none}
 use Rattle.wasm_layout.specs.Bodies.{body_of, begun_at, ended, body_steps}
-use Rattle.wasm_layout.specs.Passes.{leaves_of, advance, advances, one, step_at, steps_of, IsWithin}
+use Rattle.wasm_layout.specs.Passes.{label_at, leaves_of, advance, advances, one, step_at, steps_of, IsWithin}
 
 given_few : (q : Plain) → given q ≤ 1
 given_few plain.Nop = omega arith
@@ -46,31 +48,42 @@ rest_few : {A : Type 0} (xs : List A) → length (without_first xs) ≤ length x
 rest_few [] = omega arith
 rest_few (x ∷ xs) = omega arith
 
+-- The labels keep at most one operand each.
+keeps_more : (o : Open) (os : List Open) → o.label.keep ≤ 1 → ((l : ℕ) → (label_at os l).keep ≤ 1) → (l : ℕ) → (label_at (o ∷ os) l).keep ≤ 1
+keeps_more o os few rest zero = few
+keeps_more o os few rest (suc l) = rest l
+
+keeps_less : (os : List Open) → ((l : ℕ) → (label_at os l).keep ≤ 1) → (l : ℕ) → (label_at (without_first os) l).keep ≤ 1
+keeps_less [] all l = all l
+keeps_less (o ∷ os) all l = all (suc l)
+
 -- One instruction adds at most one to each.
 pub within_more : (a : Arities) (body : Body) (o : Op) (place count : ℕ) (p : Pass) → IsWithin place count p → IsWithin place (count + 1) (advance a body o p)
 within_more a body (op.Plain q) place count p w =
     let g = given_few q in
-    record { places = omega arith; heights = omega arith; peaks = omega arith; blocks = omega arith; nested = omega arith }
-within_more a body op.Unreachable place count p w = record { places = omega arith; heights = omega arith; peaks = omega arith; blocks = omega arith; nested = omega arith }
-within_more a body (op.Block kind) place count p w = record { places = omega arith; heights = omega arith; peaks = omega arith; blocks = omega arith; nested = omega arith }
-within_more a body (op.Loop kind) place count p w = record { places = omega arith; heights = omega arith; peaks = omega arith; blocks = omega arith; nested = omega arith }
-within_more a body (op.If kind) place count p w = record { places = omega arith; heights = omega arith; peaks = omega arith; blocks = omega arith; nested = omega arith }
-within_more a body op.Else place count p w = record { places = omega arith; heights = omega arith; peaks = omega arith; blocks = omega arith; nested = omega arith }
+    record { places = omega arith; heights = omega arith; peaks = omega arith; blocks = omega arith; nested = omega arith; kept = w.kept }
+within_more a body op.Unreachable place count p w = record { places = omega arith; heights = omega arith; peaks = omega arith; blocks = omega arith; nested = omega arith; kept = w.kept }
+within_more a body (op.Block kind) place count p w = record { places = omega arith; heights = omega arith; peaks = omega arith; blocks = omega arith; nested = omega arith; kept = keeps_more _ p.opens (count_few (is_some kind)) w.kept }
+within_more a body (op.Loop kind) place count p w = record { places = omega arith; heights = omega arith; peaks = omega arith; blocks = omega arith; nested = omega arith; kept = keeps_more _ p.opens (omega arith) w.kept }
+within_more a body (op.If kind) place count p w = record { places = omega arith; heights = omega arith; peaks = omega arith; blocks = omega arith; nested = omega arith; kept = keeps_more _ p.opens (count_few (is_some kind)) w.kept }
+within_more a body op.Else place count p w = record { places = omega arith; heights = omega arith; peaks = omega arith; blocks = omega arith; nested = omega arith; kept = w.kept }
 within_more a body op.End place count p w =
     let g = count_few (leaves_of p.opens) in
     let r = rest_few p.opens in
-    record { places = omega arith; heights = omega arith; peaks = omega arith; blocks = omega arith; nested = omega arith }
-within_more a body (op.Br l) place count p w = record { places = omega arith; heights = omega arith; peaks = omega arith; blocks = omega arith; nested = omega arith }
-within_more a body (op.BrIf l) place count p w = record { places = omega arith; heights = omega arith; peaks = omega arith; blocks = omega arith; nested = omega arith }
-within_more a body (op.BrTable n) place count p w = record { places = omega arith; heights = omega arith; peaks = omega arith; blocks = omega arith; nested = omega arith }
-within_more a body (op.Target l) place count p w = record { places = omega arith; heights = omega arith; peaks = omega arith; blocks = omega arith; nested = omega arith }
-within_more a body op.Return place count p w = record { places = omega arith; heights = omega arith; peaks = omega arith; blocks = omega arith; nested = omega arith }
+    record { places = omega arith; heights = omega arith; peaks = omega arith; blocks = omega arith; nested = omega arith; kept = keeps_less p.opens w.kept }
+within_more a body (op.Br l) place count p w = record { places = omega arith; heights = omega arith; peaks = omega arith; blocks = omega arith; nested = omega arith; kept = w.kept }
+within_more a body (op.BrIf l) place count p w =
+    let n = w.kept l in
+    record { places = omega arith; heights = omega arith; peaks = omega arith; blocks = omega arith; nested = omega arith; kept = w.kept }
+within_more a body (op.BrTable n) place count p w = record { places = omega arith; heights = omega arith; peaks = omega arith; blocks = omega arith; nested = omega arith; kept = w.kept }
+within_more a body (op.Target l) place count p w = record { places = omega arith; heights = omega arith; peaks = omega arith; blocks = omega arith; nested = omega arith; kept = w.kept }
+within_more a body op.Return place count p w = record { places = omega arith; heights = omega arith; peaks = omega arith; blocks = omega arith; nested = omega arith; kept = w.kept }
 within_more a body (op.Call f) place count p w =
     let g = count_few (arity_at a.functions f).result in
-    record { places = omega arith; heights = omega arith; peaks = omega arith; blocks = omega arith; nested = omega arith }
+    record { places = omega arith; heights = omega arith; peaks = omega arith; blocks = omega arith; nested = omega arith; kept = w.kept }
 within_more a body (op.CallIndirect t) place count p w =
     let g = count_few (arity_at a.types t).result in
-    record { places = omega arith; heights = omega arith; peaks = omega arith; blocks = omega arith; nested = omega arith }
+    record { places = omega arith; heights = omega arith; peaks = omega arith; blocks = omega arith; nested = omega arith; kept = w.kept }
 
 -- A step at most for each instruction.
 pub behind_more : (o : Op) (e : Exits) → (back o e).behind ≤ e.behind + 1
@@ -95,10 +108,10 @@ behind_few (o ∷ ops) = omega (arith, behind_more o (backs ops none), behind_fe
 
 -- So many instructions add at most so many.
 pub within_all : (a : Arities) (body : Body) (ops : List Op) (place count : ℕ) (p : Pass) → IsWithin place count p → IsWithin place (count + length ops) (advances a body ops p)
-within_all a body [] place count p w = record { places = omega arith; heights = omega arith; peaks = omega arith; blocks = omega arith; nested = omega arith }
+within_all a body [] place count p w = record { places = omega arith; heights = omega arith; peaks = omega arith; blocks = omega arith; nested = omega arith; kept = w.kept }
 within_all a body (o ∷ ops) place count p w =
     let r = within_all a body ops place (count + 1) (advance a body o p) (within_more a body o place count p w) in
-    record { places = omega arith; heights = omega arith; peaks = omega arith; blocks = omega arith; nested = omega arith }
+    record { places = omega arith; heights = omega arith; peaks = omega arith; blocks = omega arith; nested = omega arith; kept = r.kept }
 
 one_few : (s : Option Step) → length (one s) ≤ 1
 one_few None = omega arith
@@ -126,7 +139,7 @@ module _ (a : Arities) (body : Body) (ops : List Op) (i : ℕ) (d : Op) (lt : i 
 
 -- Before the first instruction.
 pub begins_within : (place : ℕ) (leaves : Bool) (ops : List Op) → IsWithin place 0 (begun_at place leaves ops)
-begins_within place leaves ops = record { places = omega arith; heights = omega arith; peaks = omega arith; blocks = omega arith; nested = omega arith }
+begins_within place leaves ops = record { places = omega arith; heights = omega arith; peaks = omega arith; blocks = omega arith; nested = omega arith; kept = keeps_more _ [] (count_few leaves) (λ l. omega arith) }
 
 -- The numbers of a body.
 pub ends_within : (a : Arities) (place : ℕ) (leaves : Bool) (ops : List Op) → IsWithin place (length ops) (ended a place leaves ops)

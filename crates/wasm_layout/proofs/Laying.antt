@@ -1,6 +1,6 @@
 -- The steps of typed code are laid out as a machine wants them.
-use Rattle.std.proofs.Common.{◌≡◌, ℕ, ◌+◌, ◌-◌, ◌≤◌, max, List, [], ◌∷◌, ◌++◌, length, map, Option, Some, None, refl, ap, ◌∙◌, subst, arith, length-append}
-use Rattle.std.specs.Prelude.{slice_get, reverse, option_map}
+use Rattle.std.proofs.Common.{◌≡◌, ℕ, ◌+◌, ◌-◌, ◌≤◌, max, List, [], ◌∷◌, ◌++◌, length, map, Option, Some, None, refl, sym, ap, ◌∙◌, subst, arith, length-append}
+use Rattle.std.specs.Prelude.{slice_get, slice_index, reverse, option_map}
 use Rattle.std.proofs.lemmas.List.{length-reverse}
 use Rattle.std.proofs.lemmas.Option.{slice_get-map}
 use Rattle.wasm_tree.specs.declared.types.ValueType.{ValueType}
@@ -16,7 +16,6 @@ use Rattle.wasm_tree.specs.Frames.{taken, given, peak, nesting, params_count, re
 use Rattle.wasm_steps.specs.declared.step.Label.{Label}
 use Rattle.wasm_steps.specs.declared.step.Step.{Step}
 use Rattle.wasm_steps.specs.declared.step.Step.TheVariants as step
-use Rattle.wasm_steps.specs.Steps.{label}
 use Rattle.wasm_steps.specs.Layout.{size, Laid, IsBranch}
 use Rattle.wasm_layout.specs.declared.arity.Arities.{Arities}
 use Rattle.wasm_layout.specs.declared.exits.Exit.{Exit}
@@ -26,7 +25,7 @@ use Rattle.wasm_layout.specs.declared.pass.Pass.{Pass}
 use Rattle.wasm_layout.specs.Arities.{count_of}
 use Rattle.wasm_layout.specs.Passes.{step_at, or_no_label}
 use Rattle.wasm_layout.proofs.Exited.{exits_of, exit}
-use Rattle.wasm_layout.proofs.Passed.{pass, above, Agree, counted, block_open, loop_open, plain_is, br_if_is, br_table_is, call_is, call_indirect_is, loop_is, block_is, if_is}
+use Rattle.wasm_layout.proofs.Passed.{pass, above, Agree, counted, keeps_of, kept_at, block_open, loop_open, plain_is, br_if_is, br_table_is, call_is, call_indirect_is, loop_is, block_is, if_is}
 use Rattle.wasm_layout.proofs.Runs.{closed, turned, ran}
 use Rattle.wasm_layout.proofs.Heights.{starts_few, changes, plain_heights, Keeps, Found, find_label, table_found}
 use Rattle.wasm_layout.proofs.Emits.{At, Emits, emits_front, emits_back, emits_table}
@@ -65,13 +64,13 @@ module _ (a : Arities) (m : Module) (agree : Agree a m) (body : Body) (final : L
   }
 
   pub laid : (c : Code) (n : ℕ) (more : List Exit) (o : Open) (outer : List Open) (place h p k : ℕ) → place + size c + n ≡ body.finish → o.label.height + h ≤ p → length outer ≤ k
-      → (labels : List (List ValueType)) (before after : List ValueType) → h ≡ length before → Keeps (o ∷ outer) labels → IsTyped every (context labels) before c after → peak m o.label.height h c ≤ room
+      → (labels : List (List ValueType)) (before after : List ValueType) → h ≡ length before → Keeps (o ∷ outer) labels → IsTyped every (context labels) before c after → peak m (keeps_of (o ∷ outer)) o.label.height h c ≤ room
       → Emitted (flat c) (pass place (exits_of c n more) (o ∷ outer) (o.label.height + h) p k) → LaidAt place (o ∷ outer) o.label.height (length after) h c
   laid Stop n more o outer place h p k fin low deep labels before after same keeps typed fits has = same ∙ ap length (typed tt)
   laid (Then q r) n more o outer place h p k fin low deep labels before after same keeps typed fits has =
       let x = plain_heights (context labels) q before typed.0 typed.1 in
       let h1 = h - taken q + given q in
-      let up = above m o.label.height h1 r in
+      let up = above m (keeps_of (o ∷ outer)) o.label.height h1 r in
       let rest = subst (Emitted (flat r)) (plain_is a m agree body o outer place (exits_of r n more) h p k q) has.1 in (
         has.0,
         x.named,
@@ -85,11 +84,11 @@ module _ (a : Arities) (m : Module) (agree : Agree a m) (body : Body) (final : L
       let to = place + 1 + size b in
       let inner = block_open to top kind in
       let n1 = length (results_of kind) in
-      let up = above m o.label.height (h + n1) r in
-      let up2 = above m top 0 b in
+      let up = above m (keeps_of (o ∷ outer)) o.label.height (h + n1) r in
+      let up2 = above m (keeps_of (inner ∷ o ∷ outer)) top 0 b in
       let e = counted kind in
       let x = exits_of b (size r + n) (exits_of r n more) in
-      let g = max (max p top) (peak m top 0 b) in
+      let g = max (max p top) (peak m (keeps_of (inner ∷ o ∷ outer)) top 0 b) in
       let d = max (max k (length outer + 1)) (length (o ∷ outer) + nesting b) in
       let first = ran a m agree body b (size r + n) (exits_of r n more) inner (o ∷ outer) (place + 1) 0 (max p top) (max k (length outer + 1)) (omega arith) (omega arith) (omega arith) in
       let start = pass (place + 1) x (inner ∷ o ∷ outer) (top + 0) (max p top) (max k (length outer + 1)) in
@@ -97,9 +96,9 @@ module _ (a : Arities) (m : Module) (agree : Agree a m) (body : Body) (final : L
       let back = emits_back final a body (flat b) (op.End ∷ flat r) start here in
       let rest = subst (Emitted (flat r)) (closed a m agree body start (flat b) to (exits_of r n more) inner o outer top (h + n1) g d refl (omega arith) first) back.1 in
       let in_body = laid b (size r + n) (exits_of r n more) inner (o ∷ outer) (place + 1) 0 (max p top) (max k (length outer + 1)) (omega arith) (omega arith) (omega arith)
-      (results_of kind ∷ labels) [] (results_of kind) refl (e, results_few kind, keeps) typed.0 (omega arith) (emits_front final a body (flat b) (op.End ∷ flat r) start here) in (
+      (results_of kind ∷ labels) [] (results_of kind) refl (refl, results_few kind, keeps) typed.0 (omega arith) (emits_front final a body (flat b) (op.End ∷ flat r) start here) in (
         has.0,
-        subst (λ i. Laid m final (length kinds) room (count_of body.result) (place + 1) (label to top i ∷ labels_of (o ∷ outer)) top n1 0 b) e in_body,
+        in_body,
         laid r n more o outer to (h + n1) (max g (o.label.height + (h + n1))) d (omega arith) (omega arith) (omega arith) labels (results_of kind ++ before) after
             (omega (arith, length-append (results_of kind) before)) keeps typed.1 (omega arith) rest,
       )
@@ -108,11 +107,11 @@ module _ (a : Arities) (m : Module) (agree : Agree a m) (body : Body) (final : L
       let to = place + 1 + size b in
       let inner = loop_open place top kind in
       let n1 = length (results_of kind) in
-      let up = above m o.label.height (h + n1) r in
-      let up2 = above m top 0 b in
+      let up = above m (keeps_of (o ∷ outer)) o.label.height (h + n1) r in
+      let up2 = above m (keeps_of (inner ∷ o ∷ outer)) top 0 b in
       let e = counted kind in
       let x = exits_of b (size r + n) (exits_of r n more) in
-      let g = max (max p top) (peak m top 0 b) in
+      let g = max (max p top) (peak m (keeps_of (inner ∷ o ∷ outer)) top 0 b) in
       let d = max (max k (length outer + 1)) (length (o ∷ outer) + nesting b) in
       let first = ran a m agree body b (size r + n) (exits_of r n more) inner (o ∷ outer) (place + 1) 0 (max p top) (max k (length outer + 1)) (omega arith) (omega arith) (omega arith) in
       let start = pass (place + 1) x (inner ∷ o ∷ outer) (top + 0) (max p top) (max k (length outer + 1)) in
@@ -131,19 +130,19 @@ module _ (a : Arities) (m : Module) (agree : Agree a m) (body : Body) (final : L
       let top = o.label.height + (h - 1) in
       let to = place + 1 + size b in
       let inner = block_open to top None in
-      let up = above m o.label.height (h - 1 + 0) r in
-      let up2 = above m top 0 b in
+      let up = above m (keeps_of (o ∷ outer)) o.label.height (h - 1 + 0) r in
+      let up2 = above m (keeps_of (inner ∷ o ∷ outer)) top 0 b in
       let z : h - 1 + 0 ≡ h - 1 = omega arith in
       let x = exits_of b (size r + n) (exits_of r n more) in
-      let g = max (max p top) (peak m top 0 b) in
+      let g = max (max p top) (peak m (keeps_of (inner ∷ o ∷ outer)) top 0 b) in
       let d = max (max k (length outer + 1)) (length (o ∷ outer) + nesting b) in
       let first = ran a m agree body b (size r + n) (exits_of r n more) inner (o ∷ outer) (place + 1) 0 (max p top) (max k (length outer + 1)) (omega arith) (omega arith) (omega arith) in
       let start = pass (place + 1) x (inner ∷ o ∷ outer) (top + 0) (max p top) (max k (length outer + 1)) in
       let here = subst (Emitted (flat b ++ op.End ∷ flat r)) (if_is a m agree body o outer place (exit (size r + n) (size r + n)) x h p k None to (omega arith)) has.1 in
       let back = emits_back final a body (flat b) (op.End ∷ flat r) start here in
       let rest = subst (Emitted (flat r)) (closed a m agree body start (flat b) to (exits_of r n more) inner o outer top (h - 1) g d refl (omega arith) first) back.1 in
-      let room' = subst (λ i. peak m o.label.height i r ≤ room) z (omega arith) in
-      let up3 = above m o.label.height (h - 1) r in
+      let room' = subst (λ i. peak m (keeps_of (o ∷ outer)) o.label.height i r ≤ room) z (omega arith) in
+      let up3 = above m (keeps_of (o ∷ outer)) o.label.height (h - 1) r in
       let target : body.finish - (size r + n) ≡ to = omega arith in (
         has.0 ∙ ap (λ i. Some (step.Test i)) target,
         refl,
@@ -161,18 +160,18 @@ module _ (a : Arities) (m : Module) (agree : Agree a m) (body : Body) (final : L
       let to = mid + 1 + size c in
       let inner = block_open to top kind in
       let n1 = length (results_of kind) in
-      let up = above m o.label.height (h - 1 + n1) r in
-      let up2 = above m top 0 b in
-      let up3 = above m top 0 c in
+      let up = above m (keeps_of (o ∷ outer)) o.label.height (h - 1 + n1) r in
+      let up2 = above m (keeps_of (inner ∷ o ∷ outer)) top 0 b in
+      let up3 = above m (keeps_of (inner ∷ o ∷ outer)) top 0 c in
       let e = counted kind in
       let x2 = exits_of c (size r + n) (exits_of r n more) in
       let x1 = exits_of b (size c + (size r + n) + 1) x2 in
       let k1 = max k (length outer + 1) in
       let first = ran a m agree body b (size c + (size r + n) + 1) x2 inner (o ∷ outer) (place + 1) 0 (max p top) k1 (omega arith) (omega arith) (omega arith) in
-      let g1 = max (max p top) (peak m top 0 b) in
+      let g1 = max (max p top) (peak m (keeps_of (inner ∷ o ∷ outer)) top 0 b) in
       let d1 = max k1 (length (o ∷ outer) + nesting b) in
       let second = ran a m agree body c (size r + n) (exits_of r n more) inner (o ∷ outer) (mid + 1) 0 (max g1 (top + 0)) d1 (omega arith) (omega arith) (omega arith) in
-      let g2 = max (max g1 (top + 0)) (peak m top 0 c) in
+      let g2 = max (max g1 (top + 0)) (peak m (keeps_of (inner ∷ o ∷ outer)) top 0 c) in
       let d2 = max d1 (length (o ∷ outer) + nesting c) in
       let tail = flat c ++ op.End ∷ flat r in
       let start = pass (place + 1) x1 (inner ∷ o ∷ outer) (top + 0) (max p top) k1 in
@@ -183,18 +182,18 @@ module _ (a : Arities) (m : Module) (agree : Agree a m) (body : Body) (final : L
       let here2 = subst (Emitted tail) (turned a m agree body start (flat b) mid x2 inner (o ∷ outer) top g1 d1 refl first) other.1 in
       let back = emits_back final a body (flat c) (op.End ∷ flat r) start2 here2 in
       let rest = subst (Emitted (flat r)) (closed a m agree body start2 (flat c) to (exits_of r n more) inner o outer top (h - 1 + n1) g2 d2 refl (omega arith) second) back.1 in
-      let room_b = sides_fit (o.label.height + h) (peak m top 0 b) (peak m top 0 c) (peak m o.label.height (h - 1 + n1) r) room fits in
+      let room_b = sides_fit (o.label.height + h) (peak m (keeps_of (inner ∷ o ∷ outer)) top 0 b) (peak m (keeps_of (inner ∷ o ∷ outer)) top 0 c) (peak m (keeps_of (o ∷ outer)) o.label.height (h - 1 + n1) r) room fits in
       let target : body.finish - (size c + (size r + n)) ≡ mid + 1 = omega arith in
       let one = laid b (size c + (size r + n) + 1) x2 inner (o ∷ outer) (place + 1) 0 (max p top) k1 (omega arith) (omega arith) (omega arith)
-      (results_of kind ∷ labels) [] (results_of kind) refl (e, results_few kind, keeps) typed.2 room_b.0 (emits_front final a body (flat b) (op.Else ∷ tail) start here) in
+      (results_of kind ∷ labels) [] (results_of kind) refl (refl, results_few kind, keeps) typed.2 room_b.0 (emits_front final a body (flat b) (op.Else ∷ tail) start here) in
       let two = laid c (size r + n) (exits_of r n more) inner (o ∷ outer) (mid + 1) 0 (max g1 (top + 0)) d1 (omega arith) (omega arith) (omega arith)
-      (results_of kind ∷ labels) [] (results_of kind) refl (e, results_few kind, keeps) typed.3 room_b.1 (emits_front final a body (flat c) (op.End ∷ flat r) start2 here2) in (
+      (results_of kind ∷ labels) [] (results_of kind) refl (refl, results_few kind, keeps) typed.3 room_b.1 (emits_front final a body (flat c) (op.End ∷ flat r) start2 here2) in (
         has.0 ∙ ap (λ i. Some (step.Test i)) target,
         h - 1,
         omega arith,
-        subst (λ i. Laid m final (length kinds) room (count_of body.result) (place + 1) (label to top i ∷ labels_of (o ∷ outer)) top n1 0 b) e one,
+        one,
         jump,
-        subst (λ i. Laid m final (length kinds) room (count_of body.result) (mid + 1) (label to top i ∷ labels_of (o ∷ outer)) top n1 0 c) e two,
+        two,
         laid r n more o outer to (h - 1 + n1) (max g2 (o.label.height + (h - 1 + n1))) d2 (omega arith) (omega arith) (omega arith) labels (results_of kind ++ typed.0) after
             (omega (arith, length-append (results_of kind) typed.0)) keeps typed.4 room_b.2 rest,
       )
@@ -205,14 +204,17 @@ module _ (a : Arities) (m : Module) (agree : Agree a m) (body : Body) (final : L
   laid (BrIf l r) n more o outer place h p k fin low deep labels before after same keeps typed fits has =
       let f = find_label (o ∷ outer) labels l typed.0 keeps (typed.1.there tt) in
       let t = changes (I32 ∷ typed.0) typed.0 before typed.2 typed.3 in
-      let up = above m o.label.height (h - 1) r in
+      let n1 = slice_index (keeps_of (o ∷ outer)) l in
+      let h1 = h - (1 + n1) + n1 in
+      let kept : n1 ≡ length typed.0 = sym (kept_at (o ∷ outer) l) ∙ ap (λ i. (or_no_label i).keep) f.there ∙ f.keep in
+      let up = above m (keeps_of (o ∷ outer)) o.label.height h1 r in
       let rest = subst (Emitted (flat r)) (br_if_is a m agree body o outer place (exits_of r n more) h p k l) has.1 in (
         f.open.label,
         has.0 ∙ ap (λ i. Some (step.BrIf (or_no_label i))) f.there,
-        h - 1,
+        h1,
         omega arith,
-        branch (o ∷ outer) l (h - 1) typed.0 f (omega arith),
-        laid r n more o outer (place + 1) (h - 1) (max p (o.label.height + (h - 1))) k (omega arith) (omega arith) deep labels typed.2 after (omega arith) keeps typed.4 (omega arith) rest,
+        branch (o ∷ outer) l h1 typed.0 f (omega arith),
+        laid r n more o outer (place + 1) h1 (max p (o.label.height + h1)) k (omega arith) (omega arith) deep labels typed.2 after (omega arith) keeps typed.4 (omega arith) rest,
       )
   laid (BrTable ls last r) n more o outer place h p k fin low deep labels before after same keeps typed fits has =
       let s = starts_few (typed.3 tt) in
@@ -241,9 +243,9 @@ module _ (a : Arities) (m : Module) (agree : Agree a m) (body : Body) (final : L
       let e : h - params_count (type_of m f) + results_count (type_of m f) ≡ h1 = ap (λ i. h - params_count i + results_count i) is in
       let rest = subst (λ i. Emitted (flat r) (pass (place + 1) (exits_of r n more) (o ∷ outer) (o.label.height + i) (max p (o.label.height + i)) k)) e
       (subst (Emitted (flat r)) (call_is a m agree body o outer place (exits_of r n more) h p k f) has.1) in
-      let fits1 = call_fits (o.label.height + h) (peak m o.label.height (h - params_count (type_of m f) + results_count (type_of m f)) r) room fits in
-      let fits2 = subst (λ i. peak m o.label.height i r ≤ room) e fits1.1 in
-      let up = above m o.label.height h1 r in (
+      let fits1 = call_fits (o.label.height + h) (peak m (keeps_of (o ∷ outer)) o.label.height (h - params_count (type_of m f) + results_count (type_of m f)) r) room fits in
+      let fits2 = subst (λ i. peak m (keeps_of (o ∷ outer)) o.label.height i r ≤ room) e fits1.1 in
+      let up = above m (keeps_of (o ∷ outer)) o.label.height h1 r in (
         has.0,
         t,
         is,
@@ -262,9 +264,9 @@ module _ (a : Arities) (m : Module) (agree : Agree a m) (body : Body) (final : L
       let e : h - 1 - params_count (slice_get m.types y) + results_count (slice_get m.types y) ≡ h1 = ap (λ i. h - 1 - params_count i + results_count i) is in
       let rest = subst (λ i. Emitted (flat r) (pass (place + 1) (exits_of r n more) (o ∷ outer) (o.label.height + i) (max p (o.label.height + i)) k)) e
       (subst (Emitted (flat r)) (call_indirect_is a m agree body o outer place (exits_of r n more) h p k y) has.1) in
-      let fits1 = call_fits (o.label.height + h) (peak m o.label.height (h - 1 - params_count (slice_get m.types y) + results_count (slice_get m.types y)) r) room fits in
-      let fits2 = subst (λ i. peak m o.label.height i r ≤ room) e fits1.1 in
-      let up = above m o.label.height h1 r in (
+      let fits1 = call_fits (o.label.height + h) (peak m (keeps_of (o ∷ outer)) o.label.height (h - 1 - params_count (slice_get m.types y) + results_count (slice_get m.types y)) r) room fits in
+      let fits2 = subst (λ i. peak m (keeps_of (o ∷ outer)) o.label.height i r ≤ room) e fits1.1 in
+      let up = above m (keeps_of (o ∷ outer)) o.label.height h1 r in (
         has.0,
         t,
         is,

@@ -1,6 +1,6 @@
 -- The pass through the code of a tree: the places, the heights and the blocks are those of the tree.
-use Rattle.std.proofs.Common.{◌≡◌, ℕ, ◌+◌, ◌-◌, ◌≤◌, min, max, List, [], ◌∷◌, ◌++◌, length, Option, Some, None, refl, ap, ◌∙◌, arith}
-use Rattle.std.specs.Prelude.{is_some, slice_get}
+use Rattle.std.proofs.Common.{◌≡◌, ℕ, zero, suc, ◌+◌, ◌-◌, ◌≤◌, max, List, [], ◌∷◌, ◌++◌, length, map, Option, Some, None, refl, ap, ◌∙◌, arith}
+use Rattle.std.specs.Prelude.{is_some, slice_get, slice_index}
 use Rattle.wasm_tree.specs.declared.types.ValueType.{ValueType}
 use Rattle.wasm_tree.specs.declared.op.Plain.{Plain}
 use Rattle.wasm_tree.specs.declared.op.Op.{Op}
@@ -16,7 +16,7 @@ use Rattle.wasm_layout.specs.declared.pass.Open.{Open}
 use Rattle.wasm_layout.specs.declared.pass.Body.{Body}
 use Rattle.wasm_layout.specs.declared.pass.Pass.{Pass}
 use Rattle.wasm_layout.specs.Arities.{count_of, arity_at}
-use Rattle.wasm_layout.specs.Passes.{close, advance, advances}
+use Rattle.wasm_layout.specs.Passes.{label_at, close, advance, advances}
 
 abbrev pub pass : ℕ → List Exit → List Open → ℕ → ℕ → ℕ → Pass
 pass place exits opens top greatest blocks = record { place = place; exits = exits; opens = opens; top = top; peak = greatest; nesting = blocks }
@@ -25,20 +25,20 @@ pub same_pass : (exits : List Exit) (opens : List Open) {pl pl' t t' pk pk' n n'
 same_pass exits opens a b c d = cc
 
 -- Where the code begins is no higher than its peak.
-pub above : (m : Module) (base h : ℕ) (c : Code) → base + h ≤ peak m base h c
-above m base h Stop = omega arith
-above m base h (Then p r) = omega arith
-above m base h (Unreachable r) = omega arith
-above m base h (Block k b r) = let e = above m (base + h) 0 b in omega arith
-above m base h (Loop k b r) = let e = above m (base + h) 0 b in omega arith
-above m base h (If k b r) = omega arith
-above m base h (IfElse k a b r) = omega arith
-above m base h (Br l r) = omega arith
-above m base h (BrIf l r) = omega arith
-above m base h (BrTable ls last r) = omega arith
-above m base h (Return r) = omega arith
-above m base h (Call f r) = omega arith
-above m base h (CallIndirect x r) = omega arith
+pub above : (m : Module) (labels : List ℕ) (base h : ℕ) (c : Code) → base + h ≤ peak m labels base h c
+above m ls base h Stop = omega arith
+above m ls base h (Then p r) = omega arith
+above m ls base h (Unreachable r) = omega arith
+above m ls base h (Block k b r) = let e = above m (length (results_of k) ∷ ls) (base + h) 0 b in omega arith
+above m ls base h (Loop k b r) = let e = above m (0 ∷ ls) (base + h) 0 b in omega arith
+above m ls base h (If k b r) = omega arith
+above m ls base h (IfElse k a b r) = omega arith
+above m ls base h (Br l r) = omega arith
+above m ls base h (BrIf l r) = omega arith
+above m ls base h (BrTable ls last r) = omega arith
+above m ls base h (Return r) = omega arith
+above m ls base h (Call f r) = omega arith
+above m ls base h (CallIndirect x r) = omega arith
 
 -- The tables are those of the module.
 pub record Agree (a : Arities) (m : Module) : Type 0 where
@@ -51,12 +51,24 @@ pub counted : (kind : Option ValueType) → count_of (is_some kind) ≡ length (
 counted None = refl
 counted (Some k) = refl
 
+-- How many values a branch to each label takes.
+abbrev pub keeps_of : List Open → List ℕ
+keeps_of opens = map (λ o. o.label.keep) opens
+
+pub kept_at : (opens : List Open) (l : ℕ) → (label_at opens l).keep ≡ slice_index (keeps_of opens) l
+kept_at [] l = refl
+kept_at (o ∷ os) zero = refl
+kept_at (o ∷ os) (suc l) = kept_at os l
+
 -- What a block's label and its results are.
+abbrev opened : ℕ → ℕ → ℕ → Option ValueType → Open
+opened to height keep kind = record { label = label to height keep; result = is_some kind }
+
 abbrev pub block_open : ℕ → ℕ → Option ValueType → Open
-block_open to height kind = record { label = label to height (count_of (is_some kind)); result = is_some kind }
+block_open to height kind = opened to height (length (results_of kind)) kind
 
 abbrev pub loop_open : ℕ → ℕ → Option ValueType → Open
-loop_open to height kind = record { label = label to height 0; result = is_some kind }
+loop_open to height kind = opened to height 0 kind
 
 module _ (a : Arities) (m : Module) (agree : Agree a m) (body : Body) where
   pub advances_append : (x y : List Op) (s : Pass) → advances a body (x ++ y) s ≡ advances a body y (advances a body x s)
@@ -92,8 +104,8 @@ module _ (a : Arities) (m : Module) (agree : Agree a m) (body : Body) where
     pub br_is : (l : ℕ) → advance a body (op.Br l) here ≡ after 0
     br_is l = moved _ 0 (omega arith)
 
-    pub br_if_is : (l : ℕ) → advance a body (op.BrIf l) here ≡ after (h - 1)
-    br_if_is l = moved _ (h - 1) (omega arith)
+    pub br_if_is : (l : ℕ) → advance a body (op.BrIf l) here ≡ after (h - (1 + slice_index (keeps_of (o ∷ outer)) l) + slice_index (keeps_of (o ∷ outer)) l)
+    br_if_is l = let e = kept_at (o ∷ outer) l in moved _ (h - (1 + slice_index (keeps_of (o ∷ outer)) l) + slice_index (keeps_of (o ∷ outer)) l) (omega arith)
 
     pub br_table_is : (n : ℕ) → advance a body (op.BrTable n) here ≡ after 0
     br_table_is n = moved _ 0 (omega arith)
@@ -127,16 +139,19 @@ module _ (a : Arities) (m : Module) (agree : Agree a m) (body : Body) where
 
   module _ (o : Open) (outer : List Open) (place : ℕ) (x : Exit) (exits : List Exit) (h p k : ℕ) where
     -- A block or an `if` begins.
+    began : (kind : Option ValueType) (i to t height : ℕ) → i ≡ to → t ≡ height
+        → pass (place + 1) exits (opened i t (count_of (is_some kind)) kind ∷ o ∷ outer) t (max p t) (max k (length (o ∷ outer)))
+        ≡ pass (place + 1) exits (block_open to height kind ∷ o ∷ outer) (height + 0) (max p height) (max k (length outer + 1))
+    began kind i to t height e f =
+        ap (λ i. pass (place + 1) exits (opened i t (count_of (is_some kind)) kind ∷ o ∷ outer) t (max p t) (max k (length (o ∷ outer)))) e
+        ∙ ap (λ n. pass (place + 1) exits (opened to t n kind ∷ o ∷ outer) t (max p t) (max k (length (o ∷ outer)))) (counted kind)
+        ∙ ap (λ t. pass (place + 1) exits (block_open to t kind ∷ o ∷ outer) t (max p t) (max k (length (o ∷ outer)))) f
+        ∙ same_pass exits (block_open to height kind ∷ o ∷ outer) refl (omega arith) refl (omega arith)
+
     pub block_is : (kind : Option ValueType) (to : ℕ) → body.finish - x.end ≡ to → advance a body (op.Block kind) (pass place (x ∷ exits) (o ∷ outer) (o.label.height + h) p k)
         ≡ pass (place + 1) exits (block_open to (o.label.height + h) kind ∷ o ∷ outer) (o.label.height + h + 0) (max p (o.label.height + h)) (max k (length outer + 1))
-    block_is kind to e =
-        ap (λ i. pass (place + 1) exits (block_open i (o.label.height + h) kind ∷ o ∷ outer) (o.label.height + h) (max p (o.label.height + h)) (max k (length (o ∷ outer)))) e
-        ∙ same_pass exits (block_open to (o.label.height + h) kind ∷ o ∷ outer) refl (omega arith) refl (omega arith)
+    block_is kind to e = began kind (body.finish - x.end) to (o.label.height + h) (o.label.height + h) e refl
 
     pub if_is : (kind : Option ValueType) (to : ℕ) → body.finish - x.end ≡ to → advance a body (op.If kind) (pass place (x ∷ exits) (o ∷ outer) (o.label.height + h) p k)
         ≡ pass (place + 1) exits (block_open to (o.label.height + (h - 1)) kind ∷ o ∷ outer) (o.label.height + (h - 1) + 0) (max p (o.label.height + (h - 1))) (max k (length outer + 1))
-    if_is kind to e =
-        let t : o.label.height + h - min 1 (o.label.height + h - o.label.height) ≡ o.label.height + (h - 1) = omega arith in
-        ap (λ i. pass (place + 1) exits (block_open i (o.label.height + h - min 1 (o.label.height + h - o.label.height)) kind ∷ o ∷ outer) (o.label.height + h - min 1 (o.label.height + h - o.label.height)) (max p (o.label.height + h - min 1 (o.label.height + h - o.label.height))) (max k (length (o ∷ outer)))) e
-        ∙ ap (λ i. pass (place + 1) exits (block_open to i kind ∷ o ∷ outer) i (max p i) (max k (length (o ∷ outer)))) t
-        ∙ same_pass exits (block_open to (o.label.height + (h - 1)) kind ∷ o ∷ outer) refl (omega arith) refl (omega arith)
+    if_is kind to e = began kind (body.finish - x.end) to _ (o.label.height + (h - 1)) e (omega arith)

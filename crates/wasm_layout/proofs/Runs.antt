@@ -1,6 +1,6 @@
 -- What a pass through the code of a tree leaves.
 use Rattle.std.proofs.Common.{◌≡◌, ℕ, suc, ◌+◌, ◌-◌, ◌≤◌, max, List, [], ◌∷◌, ◌++◌, length, map, refl, ap, ◌∙◌, arith}
-use Rattle.std.specs.Prelude.{slice_get}
+use Rattle.std.specs.Prelude.{slice_get, slice_index}
 use Rattle.wasm_tree.specs.declared.op.Op.{Op}
 use Rattle.wasm_tree.specs.declared.op.Op.TheVariants as op
 use Rattle.wasm_tree.specs.declared.module_parts.Module.{Module}
@@ -16,7 +16,7 @@ use Rattle.wasm_layout.specs.declared.pass.Pass.{Pass}
 use Rattle.wasm_layout.specs.Arities.{count_of}
 use Rattle.wasm_layout.specs.Passes.{close, advance, advances}
 use Rattle.wasm_layout.proofs.Exited.{exits_of, exit}
-use Rattle.wasm_layout.proofs.Passed.{pass, same_pass, above, Agree, counted, block_open, loop_open, advances_append, Ran, again, plain_is, unreachable_is, br_is, br_if_is, br_table_is, return_is, else_is, call_is, call_indirect_is, loop_is, close_is, block_is, if_is}
+use Rattle.wasm_layout.proofs.Passed.{pass, same_pass, above, Agree, counted, keeps_of, block_open, loop_open, advances_append, Ran, again, plain_is, unreachable_is, br_is, br_if_is, br_table_is, return_is, else_is, call_is, call_indirect_is, loop_is, close_is, block_is, if_is}
 
 -- The greatest of both sides of an `if` and what follows.
 peaks_of_sides : (p t b c x r y : ℕ) → t ≤ b → t ≤ c → x ≤ r → y ≤ p → max (max (max (max (max (max p t) b) (t + 0)) c) x) r ≡ max p (max y (max b (max c r)))
@@ -84,16 +84,16 @@ module _ (a : Arities) (m : Module) (agree : Agree a m) (body : Body) where
 
   pub ran : (c : Code) (n : ℕ) (more : List Exit) (o : Open) (outer : List Open) (place h p k : ℕ) → place + size c + n ≡ body.finish → o.label.height + h ≤ p → length outer ≤ k
       → Ran a m agree body (pass place (exits_of c n more) (o ∷ outer) (o.label.height + h) p k) (flat c) (place + size c) more (o ∷ outer) o.label.height
-      (max p (peak m o.label.height h c)) (max k (length outer + nesting c))
+      (max p (peak m (keeps_of (o ∷ outer)) o.label.height h c)) (max k (length outer + nesting c))
   ran Stop n more o outer place h p k fin low deep =
       record { height = h; is = same_pass more (o ∷ outer) (omega arith) refl (omega arith) (omega arith) }
   ran (Then q r) n more o outer place h p k fin low deep =
       let h1 = h - taken q + given q in
-      let up = above m o.label.height h1 r in
+      let up = above m (keeps_of (o ∷ outer)) o.label.height h1 r in
       again a m agree body (op.Plain q) (plain_is a m agree body o outer place (exits_of r n more) h p k q)
       (ran r n more o outer (place + 1) h1 (max p (o.label.height + h1)) k (omega arith) (omega arith) deep) (omega arith) (omega arith) refl
   ran (Unreachable r) n more o outer place h p k fin low deep =
-      let up = above m o.label.height 0 r in
+      let up = above m (keeps_of (o ∷ outer)) o.label.height 0 r in
       again a m agree body op.Unreachable (unreachable_is a m agree body o outer place (exits_of r n more) h p k)
       (ran r n more o outer (place + 1) 0 (max p (o.label.height + 0)) k (omega arith) (omega arith) deep) (omega arith) (omega arith) refl
   ran (Block kind b r) n more o outer place h p k fin low deep =
@@ -101,11 +101,11 @@ module _ (a : Arities) (m : Module) (agree : Agree a m) (body : Body) where
       let to = place + 1 + size b in
       let inner = block_open to top kind in
       let n1 = length (results_of kind) in
-      let up = above m o.label.height (h + n1) r in
-      let up2 = above m top 0 b in
+      let up = above m (keeps_of (o ∷ outer)) o.label.height (h + n1) r in
+      let up2 = above m (keeps_of (inner ∷ o ∷ outer)) top 0 b in
       let e = counted kind in
       let first = ran b (size r + n) (exits_of r n more) inner (o ∷ outer) (place + 1) 0 (max p top) (max k (length outer + 1)) (omega arith) (omega arith) (omega arith) in
-      let g = max (max p top) (peak m top 0 b) in
+      let g = max (max p top) (peak m (keeps_of (inner ∷ o ∷ outer)) top 0 b) in
       let d = max (max k (length outer + 1)) (length (o ∷ outer) + nesting b) in
       let rest = ran r n more o outer to (h + n1) (max g (o.label.height + (h + n1))) d (omega arith) (omega arith) (omega arith) in
       again a m agree body (op.Block kind) (block_is a m agree body o outer place (exit (size r + n) (size r + n)) (exits_of b (size r + n) (exits_of r n more)) h p k kind to (omega arith))
@@ -115,11 +115,11 @@ module _ (a : Arities) (m : Module) (agree : Agree a m) (body : Body) where
       let to = place + 1 + size b in
       let inner = loop_open place top kind in
       let n1 = length (results_of kind) in
-      let up = above m o.label.height (h + n1) r in
-      let up2 = above m top 0 b in
+      let up = above m (keeps_of (o ∷ outer)) o.label.height (h + n1) r in
+      let up2 = above m (keeps_of (inner ∷ o ∷ outer)) top 0 b in
       let e = counted kind in
       let first = ran b (size r + n) (exits_of r n more) inner (o ∷ outer) (place + 1) 0 (max p top) (max k (length outer + 1)) (omega arith) (omega arith) (omega arith) in
-      let g = max (max p top) (peak m top 0 b) in
+      let g = max (max p top) (peak m (keeps_of (inner ∷ o ∷ outer)) top 0 b) in
       let d = max (max k (length outer + 1)) (length (o ∷ outer) + nesting b) in
       let rest = ran r n more o outer to (h + n1) (max g (o.label.height + (h + n1))) d (omega arith) (omega arith) (omega arith) in
       again a m agree body (op.Loop kind) (loop_is a m agree body o outer place (exits_of b (size r + n) (exits_of r n more)) h p k kind)
@@ -129,11 +129,11 @@ module _ (a : Arities) (m : Module) (agree : Agree a m) (body : Body) where
       let to = place + 1 + size b in
       let inner = block_open to top kind in
       let n1 = length (results_of kind) in
-      let up = above m o.label.height (h - 1 + n1) r in
-      let up2 = above m top 0 b in
+      let up = above m (keeps_of (o ∷ outer)) o.label.height (h - 1 + n1) r in
+      let up2 = above m (keeps_of (inner ∷ o ∷ outer)) top 0 b in
       let e = counted kind in
       let first = ran b (size r + n) (exits_of r n more) inner (o ∷ outer) (place + 1) 0 (max p top) (max k (length outer + 1)) (omega arith) (omega arith) (omega arith) in
-      let g = max (max p top) (peak m top 0 b) in
+      let g = max (max p top) (peak m (keeps_of (inner ∷ o ∷ outer)) top 0 b) in
       let d = max (max k (length outer + 1)) (length (o ∷ outer) + nesting b) in
       let rest = ran r n more o outer to (h - 1 + n1) (max g (o.label.height + (h - 1 + n1))) d (omega arith) (omega arith) (omega arith) in
       again a m agree body (op.If kind) (if_is a m agree body o outer place (exit (size r + n) (size r + n)) (exits_of b (size r + n) (exits_of r n more)) h p k kind to (omega arith))
@@ -144,33 +144,35 @@ module _ (a : Arities) (m : Module) (agree : Agree a m) (body : Body) where
       let to = mid + 1 + size c in
       let inner = block_open to top kind in
       let n1 = length (results_of kind) in
-      let up = above m o.label.height (h - 1 + n1) r in
-      let up2 = above m top 0 b in
-      let up3 = above m top 0 c in
+      let up = above m (keeps_of (o ∷ outer)) o.label.height (h - 1 + n1) r in
+      let up2 = above m (keeps_of (inner ∷ o ∷ outer)) top 0 b in
+      let up3 = above m (keeps_of (inner ∷ o ∷ outer)) top 0 c in
       let e = counted kind in
       let x2 = exits_of c (size r + n) (exits_of r n more) in
       let first = ran b (size c + (size r + n) + 1) x2 inner (o ∷ outer) (place + 1) 0 (max p top) (max k (length outer + 1)) (omega arith) (omega arith) (omega arith) in
-      let g1 = max (max p top) (peak m top 0 b) in
+      let g1 = max (max p top) (peak m (keeps_of (inner ∷ o ∷ outer)) top 0 b) in
       let d1 = max (max k (length outer + 1)) (length (o ∷ outer) + nesting b) in
       let second = ran c (size r + n) (exits_of r n more) inner (o ∷ outer) (mid + 1) 0 (max g1 (top + 0)) d1 (omega arith) (omega arith) (omega arith) in
-      let g2 = max (max g1 (top + 0)) (peak m top 0 c) in
+      let g2 = max (max g1 (top + 0)) (peak m (keeps_of (inner ∷ o ∷ outer)) top 0 c) in
       let d2 = max d1 (length (o ∷ outer) + nesting c) in
       let rest = ran r n more o outer to (h - 1 + n1) (max g2 (o.label.height + (h - 1 + n1))) d2 (omega arith) (omega arith) (omega arith) in
       again a m agree body (op.If kind) (if_is a m agree body o outer place (exit (size c + (size r + n)) (size r + n)) (exits_of b (size c + (size r + n) + 1) x2) h p k kind to (omega arith))
       (else_ran _ (flat b) (flat c ++ op.End ∷ flat r) mid x2 inner (o ∷ outer) (o ∷ outer) top o.label.height g1 d1 refl first
       (block_ran _ (flat c) (flat r) to (exits_of r n more) inner o outer top (h - 1 + n1) g2 d2 refl (omega arith) second rest)) (omega arith)
-      (peaks_of_sides p top (peak m top 0 b) (peak m top 0 c) (o.label.height + (h - 1 + n1)) (peak m o.label.height (h - 1 + n1) r) (o.label.height + h) (omega arith) (omega arith) (omega arith) low)
+      (peaks_of_sides p top (peak m (keeps_of (inner ∷ o ∷ outer)) top 0 b) (peak m (keeps_of (inner ∷ o ∷ outer)) top 0 c) (o.label.height + (h - 1 + n1)) (peak m (keeps_of (o ∷ outer)) o.label.height (h - 1 + n1) r) (o.label.height + h) (omega arith) (omega arith) (omega arith) low)
       (blocks_of_sides k (length outer) (nesting b) (nesting c) (nesting r) deep)
   ran (Br l r) n more o outer place h p k fin low deep =
-      let up = above m o.label.height 0 r in
+      let up = above m (keeps_of (o ∷ outer)) o.label.height 0 r in
       again a m agree body (op.Br l) (br_is a m agree body o outer place (exits_of r n more) h p k l)
       (ran r n more o outer (place + 1) 0 (max p (o.label.height + 0)) k (omega arith) (omega arith) deep) (omega arith) (omega arith) refl
   ran (BrIf l r) n more o outer place h p k fin low deep =
-      let up = above m o.label.height (h - 1) r in
+      let n1 = slice_index (keeps_of (o ∷ outer)) l in
+      let h1 = h - (1 + n1) + n1 in
+      let up = above m (keeps_of (o ∷ outer)) o.label.height h1 r in
       again a m agree body (op.BrIf l) (br_if_is a m agree body o outer place (exits_of r n more) h p k l)
-      (ran r n more o outer (place + 1) (h - 1) (max p (o.label.height + (h - 1))) k (omega arith) (omega arith) deep) (omega arith) (omega arith) refl
+      (ran r n more o outer (place + 1) h1 (max p (o.label.height + h1)) k (omega arith) (omega arith) deep) (omega arith) (omega arith) refl
   ran (BrTable ls last r) n more o outer place h p k fin low deep =
-      let up = above m o.label.height 0 r in
+      let up = above m (keeps_of (o ∷ outer)) o.label.height 0 r in
       let x = exits_of r n more in
       let p1 = max p (o.label.height + 0) in
       let first = br_table_is a m agree body o outer place x h p k (length ls) in
@@ -184,16 +186,16 @@ module _ (a : Arities) (m : Module) (agree : Agree a m) (body : Body) where
             ∙ ap (advances a body (flat r)) third ∙ rest.is ∙ same_pass more (o ∷ outer) (omega arith) refl (omega arith) refl;
       }
   ran (Return r) n more o outer place h p k fin low deep =
-      let up = above m o.label.height 0 r in
+      let up = above m (keeps_of (o ∷ outer)) o.label.height 0 r in
       again a m agree body op.Return (return_is a m agree body o outer place (exits_of r n more) h p k)
       (ran r n more o outer (place + 1) 0 (max p (o.label.height + 0)) k (omega arith) (omega arith) deep) (omega arith) (omega arith) refl
   ran (Call f r) n more o outer place h p k fin low deep =
       let h1 = h - params_count (type_of m f) + results_count (type_of m f) in
-      let up = above m o.label.height h1 r in
+      let up = above m (keeps_of (o ∷ outer)) o.label.height h1 r in
       again a m agree body (op.Call f) (call_is a m agree body o outer place (exits_of r n more) h p k f)
       (ran r n more o outer (place + 1) h1 (max p (o.label.height + h1)) k (omega arith) (omega arith) deep) (omega arith) (omega arith) refl
   ran (CallIndirect x r) n more o outer place h p k fin low deep =
       let h1 = h - 1 - params_count (slice_get m.types x) + results_count (slice_get m.types x) in
-      let up = above m o.label.height h1 r in
+      let up = above m (keeps_of (o ∷ outer)) o.label.height h1 r in
       again a m agree body (op.CallIndirect x) (call_indirect_is a m agree body o outer place (exits_of r n more) h p k x)
       (ran r n more o outer (place + 1) h1 (max p (o.label.height + h1)) k (omega arith) (omega arith) deep) (omega arith) (omega arith) refl

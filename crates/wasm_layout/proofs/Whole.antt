@@ -57,14 +57,14 @@ module _ (a : Arities) (m : Module) (same : Agree a m) (place : ℕ) (leaves : B
   start_is : begun_at place leaves (flat tree) ≡ start
   start_is = ap (λ (e : Exits). pass place e.found (record { label = label (place + e.behind) 0 (count_of leaves); result = leaves } ∷ []) 0 0 0) ends_are
 
-  whole : Ran a m same body (pass place (exits_of tree 0 []) (outermost ∷ []) (0 + 0) 0 0) (flat tree) (place + size tree) [] (outermost ∷ []) 0 (max 0 (peak m 0 0 tree)) (max 0 (0 + nesting tree))
+  whole : Ran a m same body (pass place (exits_of tree 0 []) (outermost ∷ []) (0 + 0) 0 0) (flat tree) (place + size tree) [] (outermost ∷ []) 0 (max 0 (peak m (count_of leaves ∷ []) 0 0 tree)) (max 0 (0 + nesting tree))
   whole = ran a m same body tree 0 [] outermost [] place 0 0 0 (omega arith) (omega arith) (omega arith)
 
-  ended_is : ended a place leaves (flat tree) ≡ pass (place + size tree) [] (outermost ∷ []) (0 + whole.height) (max 0 (peak m 0 0 tree)) (max 0 (0 + nesting tree))
+  ended_is : ended a place leaves (flat tree) ≡ pass (place + size tree) [] (outermost ∷ []) (0 + whole.height) (max 0 (peak m (count_of leaves ∷ []) 0 0 tree)) (max 0 (0 + nesting tree))
   unfolding ended
   ended_is = rw (body_is, start_is) whole.is
 
-  pub peak_is : (extent_of a place leaves (flat tree)).height ≡ peak m 0 0 tree
+  pub peak_is : (extent_of a place leaves (flat tree)).height ≡ peak m (count_of leaves ∷ []) 0 0 tree
   peak_is = let e = ap (λ (p : Pass). p.peak) ended_is in omega arith
 
   pub nesting_is : (extent_of a place leaves (flat tree)).nesting ≡ nesting tree
@@ -124,10 +124,11 @@ module _ (m : Module) (valid : ValidModule m) (fn : Function) (t : FunctionType)
   results_are : count_of leaves ≡ length t.results
   results_are = arity.results
 
-  height_is : (place : ℕ) → (extent_of (arities_of m) place leaves fn.body).height ≡ peak m 0 0 (tree_of fn.body)
+  height_is : (place : ℕ) → (extent_of (arities_of m) place leaves fn.body).height ≡ peak m (length t.results ∷ []) 0 0 (tree_of fn.body)
   height_is place =
-      subst (λ ops. (extent_of (arities_of m) place leaves ops).height ≡ peak m 0 0 (tree_of ops)) (sym ok.nested)
-      (peak_is (arities_of m) m (agree m valid) place leaves ok.tree ∙ ap (peak m 0 0) (sym (tree_is ok.tree)))
+      subst (λ ops. (extent_of (arities_of m) place leaves ops).height ≡ peak m (length t.results ∷ []) 0 0 (tree_of ops)) (sym ok.nested)
+      (peak_is (arities_of m) m (agree m valid) place leaves ok.tree ∙ ap (λ n. peak m (n ∷ []) 0 0 ok.tree) results_are
+      ∙ ap (peak m (length t.results ∷ []) 0 0) (sym (tree_is ok.tree)))
 
   blocks_are : (place : ℕ) → (extent_of (arities_of m) place leaves fn.body).nesting ≡ nesting (tree_of fn.body)
   blocks_are place =

@@ -91,6 +91,10 @@ close p =
 abbrev pub call : Pass → ℕ → Arity → Pass
 call p besides a = on p (without p (a.params + besides) + count_of a.result)
 
+-- A conditional branch takes an operand and what its label takes, and gives the latter back.
+abbrev pub branch_if : Pass → ℕ → Pass
+branch_if p l = on p (without p (1 + (label_at p.opens l).keep) + (label_at p.opens l).keep)
+
 abbrev pub advance : Arities → Body → Op → Pass → Pass
 advance a body (op.Plain q) p = on p (without p (taken q) + given q)
 advance a body op.Unreachable p = on p (emptied p)
@@ -100,7 +104,7 @@ advance a body (op.If kind) p = block body p (without p 1) (is_some kind)
 advance a body op.Else p = on p (emptied p)
 advance a body op.End p = close p
 advance a body (op.Br l) p = on p (emptied p)
-advance a body (op.BrIf l) p = on p (without p 1)
+advance a body (op.BrIf l) p = branch_if p l
 advance a body (op.BrTable count) p = on p (emptied p)
 advance a body (op.Target l) p = on p p.top
 advance a body op.Return p = on p (emptied p)
@@ -126,3 +130,4 @@ pub record IsWithin (place count : ℕ) (p : Pass) : Type 0 where
   pub peaks : p.peak ≤ count
   pub blocks : length p.opens ≤ count + 1
   pub nested : p.nesting ≤ count
+  pub kept : (l : ℕ) → (label_at p.opens l).keep ≤ 1

@@ -2,7 +2,7 @@
 ghost use Rattle.std.specs.Prelude.{◌≡◌, ◌<◌, ◌≤◌, ◌-◌, ◌^◌, OnOk};
 ghost use Rattle.wasm_steps.specs.Steps.{label};
 ghost use Rattle.wasm_layout.specs.Arities.{count_of};
-ghost use Rattle.wasm_layout.specs.Passes.{base_of, without, emptied, label_at, step_at, on, enter, block, repeat, close, call, advance};
+ghost use Rattle.wasm_layout.specs.Passes.{base_of, without, emptied, label_at, step_at, on, enter, block, repeat, close, call, branch_if, advance};
 
 use crate::arity::{Arities, Arity, arity_at, count};
 use crate::effect::{given, taken};
@@ -200,6 +200,18 @@ impl Pass {
         self.on(below + count(arity.result));
     }
 
+    /// After a conditional branch, which takes an operand and what its label takes, and gives the latter back. In code that
+    /// is never reached, it may give back what was never there.
+    fn branch_if(&mut self, label: u32)
+        requires place { self.old.place < usize.MAX }
+        requires top { self.old.top < 2 ^ 32 }
+        ensures { self.new ≡ branch_if self.old label }
+    {
+        let kept = self.label(label).keep as usize;
+        let below = self.without(1 + kept);
+        self.on(below + kept);
+    }
+
     /// After an instruction.
     pub fn advance(&mut self, arities: &Arities, body: Body, op: Op) -> Result<(), Memory>
         requires finish { body.finish < 2 ^ 32 }
@@ -216,7 +228,7 @@ impl Pass {
             Op::Loop(kind) => self.repeat(kind.is_some())?,
             Op::If(kind) => self.block(body, self.without(1), kind.is_some())?,
             Op::End => self.close(),
-            Op::BrIf(_) => self.on(self.without(1)),
+            Op::BrIf(label) => self.branch_if(label),
             Op::Target(_) => self.on(self.top),
             Op::Call(function) => self.call(0, arity_at(arities.functions.as_slice(), function)),
             Op::CallIndirect(signature) => {

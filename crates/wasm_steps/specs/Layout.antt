@@ -110,7 +110,7 @@ module _ (m : Module) (steps : List Step) (locals room keep : ℕ) where
 -- The facts of a body are those of its function, and its steps lie at its entry. A `Finish` ends them.
 pub record IsBodyLayout (m : Module) (steps : List Step) (t : FunctionType) (fn : Function) (layout : BodyLayout) : Type 0 where
   pub locals : layout.locals ≡ length (grouped fn.locals)
-  pub height : layout.height ≡ peak m 0 0 (tree_of fn.body)
+  pub height : layout.height ≡ peak m (length t.results ∷ []) 0 0 (tree_of fn.body)
   pub words : layout.words ≡ frame_words m t fn
   pub laid : Laid m steps (length t.params + layout.locals) layout.height (length t.results) layout.entry
       (label (layout.entry + size (tree_of fn.body)) 0 (length t.results) ∷ []) 0 (length t.results) 0 (tree_of fn.body)

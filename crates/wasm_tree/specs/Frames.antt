@@ -1,5 +1,5 @@
 -- Calls and their frames: WebAssembly Core 1.0 section 4.4.7, with the stack words that each frame takes.
-use Rattle.std.specs.Prelude.{ℕ, zero, suc, ◌+◌, ◌-◌, max, List, [], ◌∷◌, ◌++◌, length, take, drop, reverse, replicate, Option, Some, None, nat_lt, cond, slice_get}
+use Rattle.std.specs.Prelude.{ℕ, zero, suc, ◌+◌, ◌-◌, max, List, [], ◌∷◌, ◌++◌, length, take, drop, reverse, replicate, Option, Some, None, nat_lt, cond, slice_get, slice_index}
 use Rattle.wasm_tree.specs.declared.trap.Trap.TheVariants as trap
 use Rattle.wasm_tree.specs.declared.types.FunctionType.{FunctionType}
 use Rattle.wasm_tree.specs.declared.op.Plain.{Plain}
@@ -70,24 +70,28 @@ given (plain.Binary kind o) = 1
 given (plain.Convert c) = 1
 
 -- The greatest operand height in the code, whose block begins at base and which begins with height operands of the
--- block. After an instruction that never goes on, the height is that of the block's begin, and a pop that would go
--- below it takes nothing.
-abbrev pub peak : Module → ℕ → ℕ → Code → ℕ
-peak m base height Stop = base + height
-peak m base height (Then p rest) = max (base + height) (peak m base (height - taken p + given p) rest)
-peak m base height (Unreachable rest) = max (base + height) (peak m base 0 rest)
-peak m base height (Block kind body rest) = max (peak m (base + height) 0 body) (peak m base (height + length (results_of kind)) rest)
-peak m base height (Loop kind body rest) = max (peak m (base + height) 0 body) (peak m base (height + length (results_of kind)) rest)
-peak m base height (If kind first rest) = max (base + height) (max (peak m (base + (height - 1)) 0 first) (peak m base (height - 1 + length (results_of kind)) rest))
-peak m base height (IfElse kind first second rest) =
-    max (base + height) (max (peak m (base + (height - 1)) 0 first) (max (peak m (base + (height - 1)) 0 second) (peak m base (height - 1 + length (results_of kind)) rest)))
-peak m base height (Br label rest) = max (base + height) (peak m base 0 rest)
-peak m base height (BrIf label rest) = max (base + height) (peak m base (height - 1) rest)
-peak m base height (BrTable labels last rest) = max (base + height) (peak m base 0 rest)
-peak m base height (Return rest) = max (base + height) (peak m base 0 rest)
-peak m base height (Call f rest) = max (base + height) (peak m base (height - params_count (type_of m f) + results_count (type_of m f)) rest)
-peak m base height (CallIndirect x rest) =
-    max (base + height) (peak m base (height - 1 - params_count (slice_get m.types x) + results_count (slice_get m.types x)) rest)
+-- block. The labels are how many values a branch to each takes, the innermost first. After an instruction that never
+-- goes on, the height is that of the block's begin. A pop that would go below it takes nothing, and what an instruction
+-- gives still counts: a `br_if` takes an operand and what its label takes, and gives the latter back.
+abbrev pub peak : Module → List ℕ → ℕ → ℕ → Code → ℕ
+peak m labels base height Stop = base + height
+peak m labels base height (Then p rest) = max (base + height) (peak m labels base (height - taken p + given p) rest)
+peak m labels base height (Unreachable rest) = max (base + height) (peak m labels base 0 rest)
+peak m labels base height (Block kind body rest) =
+    max (peak m (length (results_of kind) ∷ labels) (base + height) 0 body) (peak m labels base (height + length (results_of kind)) rest)
+peak m labels base height (Loop kind body rest) = max (peak m (0 ∷ labels) (base + height) 0 body) (peak m labels base (height + length (results_of kind)) rest)
+peak m labels base height (If kind first rest) =
+    max (base + height) (max (peak m (length (results_of kind) ∷ labels) (base + (height - 1)) 0 first) (peak m labels base (height - 1 + length (results_of kind)) rest))
+peak m labels base height (IfElse kind first second rest) =
+    max (base + height) (max (peak m (length (results_of kind) ∷ labels) (base + (height - 1)) 0 first)
+    (max (peak m (length (results_of kind) ∷ labels) (base + (height - 1)) 0 second) (peak m labels base (height - 1 + length (results_of kind)) rest)))
+peak m labels base height (Br label rest) = max (base + height) (peak m labels base 0 rest)
+peak m labels base height (BrIf label rest) = max (base + height) (peak m labels base (height - (1 + slice_index labels label) + slice_index labels label) rest)
+peak m labels base height (BrTable targets last rest) = max (base + height) (peak m labels base 0 rest)
+peak m labels base height (Return rest) = max (base + height) (peak m labels base 0 rest)
+peak m labels base height (Call f rest) = max (base + height) (peak m labels base (height - params_count (type_of m f) + results_count (type_of m f)) rest)
+peak m labels base height (CallIndirect x rest) =
+    max (base + height) (peak m labels base (height - 1 - params_count (slice_get m.types x) + results_count (slice_get m.types x)) rest)
 
 -- How many blocks stand one in another.
 abbrev pub nesting : Code → ℕ
@@ -105,9 +109,10 @@ nesting (Return rest) = nesting rest
 nesting (Call f rest) = nesting rest
 nesting (CallIndirect x rest) = nesting rest
 
--- The stack words of a function's frame: 8, its parameters, its locals, its operands and its blocks.
+-- The stack words of a function's frame: 8, its parameters, its locals, its operands and its blocks. The outermost
+-- label takes the function's results.
 abbrev pub frame_words : Module → FunctionType → Function → ℕ
-frame_words m t f = 8 + length t.params + length (grouped f.locals) + peak m 0 0 (tree_of f.body) + nesting (tree_of f.body)
+frame_words m t f = 8 + length t.params + length (grouped f.locals) + peak m (length t.results ∷ []) 0 0 (tree_of f.body) + nesting (tree_of f.body)
 
 abbrev pub arguments : FunctionType → List ℕ → List ℕ
 arguments t operands = reverse (take (length t.params) operands)
