@@ -29,7 +29,7 @@ fn put_token(alloc: Global, out: &mut String, kind: &TokenKind) -> Result<(), Al
         TokenKind::Reserved(word) => put_bytes(alloc, out, 'w', word.text()),
         TokenKind::Number(n) => out.push_str(format!(in alloc; "n{n} ")?.as_str()),
         TokenKind::Character(c) => out.push_str(format!(in alloc; "c{c} ")?.as_str()),
-        TokenKind::Text(bytes) => put_bytes(alloc, out, 't', bytes.as_slice()),
+        TokenKind::Text(text) => put_bytes(alloc, out, 't', text.as_slice()),
         TokenKind::Mark(Mark::AngleOpen | Mark::AngleClose) => out.push_str("angle "),
         TokenKind::Mark(Mark::Tag) => out.push_str("tag "),
         TokenKind::Mark(mark) => put_bytes(alloc, out, 'm', mark.text()),

@@ -20,7 +20,7 @@ fn same(a: &TokenKind, b: &TokenKind) -> bool {
     }
 }
 
-// Whether the lists are the same, wherever their names stand.
+// Whether the lists are the same, wherever their names and texts stand.
 fn all_same(a: &[TokenKind], b: &[TokenKind]) -> bool {
     a.len() == b.len() && a.iter().zip(b).all(|(x, y)| same(x, y))
 }

@@ -9,7 +9,7 @@ use Rattle.mo_syntax.specs.Words.{word_of}
 use Rattle.mo_syntax.specs.Tokens.{AreInOrder, placed}
 use Rattle.mo_syntax.specs.declared.token.TokenKind.{TokenKind}
 use Rattle.mo_syntax.specs.declared.token.TokenKind.TheVariants as t
-use Rattle.mo_lexer.specs.Answers.{Gives, Refuses, IsNamedAt, AreNamed}
+use Rattle.mo_lexer.specs.Answers.{Gives, Refuses, IsPlacedAt, ArePlaced}
 use Rattle.mo_lexer.proofs.Tools.{and_true}
 use Rattle.mo_lexer.proofs.MarkLemmas.{mark_some}
 use Rattle.std.proofs.lemmas.List.{append-nil, append_cancel_left}
@@ -173,7 +173,7 @@ token_some before (t.Number n) text rest (inl (numeral, v, e, p), small) = numer
 token_some before (t.Number n) text rest (inr (digits, e, numeral, v, g), small) = omega (arith, ap length e)
 token_some before (t.Character c) text rest (inl (e, sc, q, s, n)) = omega (arith, ap length e)
 token_some before (t.Character c) text rest (inr (escape, e, good)) = omega (arith, ap length e)
-token_some before (t.Text bytes) text rest (items, e, v, good) = omega (arith, ap length e)
+token_some before (t.Text value) text rest (at, items, e, v, good) = omega (arith, ap length e)
 token_some before (t.Mark mark) text rest (e, longest, plain_, fits) = subst (λ l. 0 < length l) (sym e) (mark_some mark)
 
 pieces_in_order : (first place : ℕ) (before : Before) (pieces : List Piece) (rest : List ℕ) → first ≤ place → AllStand before pieces rest → AreInOrder first (place + length (text_of pieces)) (tokens_from place pieces)
@@ -202,20 +202,20 @@ pub in_order : (source : List ℕ) (r : Result (List Token) LexFault) → IfOk r
 in_order source (Ok tokens) is = lexed_in_order source tokens is.1
 in_order source (Err fault) is = tt
 
-placed_named : (place : Place) (kind : TokenKind) → IsNamedAt place (placed place kind)
-placed_named place (t.Identifier name) = refl
-placed_named place (t.Reserved word) = tt
-placed_named place (t.Number n) = tt
-placed_named place (t.Character c) = tt
-placed_named place (t.Text bytes) = tt
-placed_named place (t.Mark mark) = tt
+kind_placed : (place : Place) (kind : TokenKind) → IsPlacedAt place (placed place kind)
+kind_placed place (t.Identifier name) = refl
+kind_placed place (t.Reserved word) = tt
+kind_placed place (t.Number n) = tt
+kind_placed place (t.Character c) = tt
+kind_placed place (t.Text text) = refl
+kind_placed place (t.Mark mark) = tt
 
-pieces_named : (place : ℕ) (pieces : List Piece) → AreNamed (tokens_from place pieces)
-pieces_named place [] = tt
-pieces_named place (blank b ∷ pieces) = pieces_named (place + 1) pieces
-pieces_named place (comment text ∷ pieces) = pieces_named (place + length text) pieces
-pieces_named place (token kind text ∷ pieces) = (placed_named (record { start = place; «end» = place + length text }) kind, pieces_named (place + length text) pieces)
+pieces_placed : (place : ℕ) (pieces : List Piece) → ArePlaced (tokens_from place pieces)
+pieces_placed place [] = tt
+pieces_placed place (blank b ∷ pieces) = pieces_placed (place + 1) pieces
+pieces_placed place (comment text ∷ pieces) = pieces_placed (place + length text) pieces
+pieces_placed place (token kind text ∷ pieces) = (kind_placed (record { start = place; «end» = place + length text }) kind, pieces_placed (place + length text) pieces)
 
-pub are_named : (source : List ℕ) (r : Result (List Token) LexFault) → IfOk r (λ found. (length source ≤ 1048576) × Lexed source found) → IfOk r AreNamed
-are_named source (Ok tokens) (short, lexed) = subst AreNamed (sym lexed.listed) (pieces_named 0 lexed.pieces)
-are_named source (Err fault) is = tt
+pub are_placed : (source : List ℕ) (r : Result (List Token) LexFault) → IfOk r (λ found. (length source ≤ 1048576) × Lexed source found) → IfOk r ArePlaced
+are_placed source (Ok tokens) (short, lexed) = subst ArePlaced (sym lexed.listed) (pieces_placed 0 lexed.pieces)
+are_placed source (Err fault) is = tt

@@ -139,6 +139,10 @@ sign_shape m.Tag rest h g = other_shape 35 (rest) refl g
 abbrev pub identifier : List ℕ → TokenKind
 identifier text = t.Identifier (record { bytes = text; place = nowhere })
 
+-- a text whose place is not said
+abbrev pub text_kind : List ℕ → TokenKind
+text_kind bytes = t.Text (record { bytes = bytes; place = nowhere })
+
 abbrev kind_of_name : List ℕ → Option Word → TokenKind
 kind_of_name name (Some word) = t.Reserved word
 kind_of_name name None = if bytes_eq name (95 ∷ []) then t.Mark m.Underscore else identifier name
@@ -193,7 +197,7 @@ escape_outcome place (esc.Byte b len) = met Memory
 abbrev text_outcome : ℕ → List Item → List ℕ → Outcome
 text_outcome place items [] = ends (OpenText place)
 text_outcome place items (b ∷ rest) =
-    if b == 34 then found (token (t.Text (flat_map item_bytes items)) (34 ∷ flat_map item_text items ++ 34 ∷ []))
+    if b == 34 then found (token (text_kind (flat_map item_bytes items)) (34 ∷ flat_map item_text items ++ 34 ∷ []))
     else (if b == 10 then met (OpenText place) else escape_outcome (place + 1 + length (flat_map item_text items)) (escape_at true rest))
 
 record TextView (place : ℕ) (text : List ℕ) (o : Outcome) : Type 0 where
@@ -445,9 +449,10 @@ token_view before place (t.Character c) text rest (inl (is, scalar, q, s, n)) =
 token_view before place (t.Character c) text rest (inr (more, is, good)) =
     let whole : text ++ rest ≡ 39 ∷ (92 ∷ more) ++ 39 ∷ rest = ap (λ l. l ++ rest) is ∙ ap (λ l. 39 ∷ 92 ∷ l) (append_assoc more (39 ∷ []) rest) in
     inr (inr (inr (record { inner = 92 ∷ more; c = c; tail = 39 ∷ rest; whole = whole; one = inr (more, refl, good); is = ap (λ l. found (token (t.Character c) l)) is })))
-token_view before place (t.Text bytes) text rest (items, is, value, good) =
+token_view before place (t.Text value) text rest (at, items, is, bytes, good) =
     let whole : text ++ rest ≡ 34 ∷ flat_map item_text items ++ 34 ∷ rest = ap (λ l. l ++ rest) is ∙ ap (λ l. 34 ∷ l) (append_assoc (flat_map item_text items) (34 ∷ []) rest) in
-    inr (inl (record { items = items; rest = 34 ∷ rest; opens = (whole, good); stop = stops_quote rest; is = ap (λ l. found (token (t.Text bytes) l)) is ∙ ap (λ v. found (token (t.Text v) (34 ∷ flat_map item_text items ++ 34 ∷ []))) value }))
+    let same : t.Text value ≡ text_kind (flat_map item_bytes items) = ap (λ p. t.Text (record { bytes = value.bytes; place = p })) at ∙ ap text_kind bytes in
+    inr (inl (record { items = items; rest = 34 ∷ rest; opens = (whole, good); stop = stops_quote rest; is = ap (λ l. found (token (t.Text value) l)) is ∙ ap (λ k. found (token k (34 ∷ flat_map item_text items ++ 34 ∷ []))) same }))
 token_view before place (t.Mark mark) text rest (is, longest, no_slash, fits) =
     inl (subst (λ l. PlainView before place (l ++ rest) (found (token (t.Mark mark) l))) (sym is)
     (mark_text_view before place mark rest longest (ap (λ l. begins_comment (l ++ rest)) (sym is) ∙ no_slash) fits))

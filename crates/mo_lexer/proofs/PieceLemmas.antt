@@ -30,7 +30,7 @@ use Rattle.mo_lexer.proofs.NumberLemmas.{NumberAt, decimal_found, hexadecimal_fo
 use Rattle.mo_lexer.specs.Reading.{block_len, digits_len}
 use Rattle.mo_lexer.proofs.Tools.{and_true, and_of, or_true, or_left, tested, slice_rest, if_true, take_two, drop_two}
 use Rattle.mo_lexer.proofs.Names.{run_found}
-use Rattle.mo_lexer.proofs.OneOutcome.{identifier}
+use Rattle.mo_lexer.proofs.OneOutcome.{identifier, text_kind}
 use Rattle.mo_lexer.proofs.CommentLemmas.{block_found}
 use Rattle.mo_lexer.proofs.EscapeLemmas.{take_seam, drop_seam}
 use Rattle.mo_lexer.proofs.MarkLemmas.{reached_some, longest_from_ended, mark_found, no_mark, context_found, underscore_longest}
@@ -221,8 +221,8 @@ character_piece before text found is =
     let some = character_some (take found.len text) found.value is.is_character in
     token_piece before text (t.Character found.value) found.len is.within (omega arith) is.is_character
 
-pub text_piece : (before : Before) (text : List ℕ) (found : TextFound) → TextIs text found → PieceIs before text (token_found (t.Text found.bytes) found.len)
+pub text_piece : (before : Before) (text : List ℕ) (found : TextFound) → TextIs text found → PieceIs before text (token_found (text_kind found.bytes) found.len)
 text_piece before text found is =
     let size = length-take-le found.len text is.within in
     let some : 0 < length (take found.len text) = omega (arith, ap length is.is_text.1) in
-    token_piece before text (t.Text found.bytes) found.len is.within (omega arith) is.is_text
+    token_piece before text (text_kind found.bytes) found.len is.within (omega arith) (refl, is.is_text)

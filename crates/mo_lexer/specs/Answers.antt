@@ -25,12 +25,13 @@ abbrev pub Refuses : LexFault → Result (List Token) LexFault → Type 0
 Refuses fault (Ok found) = ⊥
 Refuses fault (Err other) = (other ≡ Memory) ⊎ (other ≡ fault)
 
--- the name, where it is one, is at this place
-abbrev pub IsNamedAt : Place → TokenKind → Type 0
-IsNamedAt place (t.Identifier name) = name.place ≡ place
-IsNamedAt place _ = Unit {0}
+-- a name or text is at this place
+abbrev pub IsPlacedAt : Place → TokenKind → Type 0
+IsPlacedAt place (t.Identifier name) = name.place ≡ place
+IsPlacedAt place (t.Text text) = text.place ≡ place
+IsPlacedAt place _ = Unit {0}
 
--- each name stands where its token does
-abbrev pub AreNamed : List Token → Type 0
-AreNamed [] = Unit {0}
-AreNamed (token ∷ tokens) = IsNamedAt (record { start = token.start; «end» = token.end }) token.kind × AreNamed tokens
+-- each name and text stands where its token does
+abbrev pub ArePlaced : List Token → Type 0
+ArePlaced [] = Unit {0}
+ArePlaced (token ∷ tokens) = IsPlacedAt (record { start = token.start; «end» = token.end }) token.kind × ArePlaced tokens

@@ -6,7 +6,7 @@ ghost use Rattle.mo_syntax.specs.Lexed.{Lexed};
 ghost use Rattle.mo_syntax.specs.Tokens.{AreInOrder};
 ghost use Rattle.mo_lexer.specs.declared.fault.LexFault.{LexFault};
 ghost use Rattle.mo_lexer.specs.Faults.{Faults};
-ghost use Rattle.mo_lexer.specs.Answers.{TextStops, Gives, Refuses, AreNamed};
+ghost use Rattle.mo_lexer.specs.Answers.{TextStops, Gives, Refuses, ArePlaced};
 
 use crate::fault::LexFault;
 use crate::front::utf8_front;
@@ -31,8 +31,8 @@ pub fn lex(alloc: Global, source: &[u8]) -> Result<Tokens, LexFault>
 
     ensures ordered { IfOk result (AreInOrder 0 (length source.now)) }
 
-    // Each name stands where its token does.
-    ensures named { IfOk result AreNamed }
+    // Each name and text stands where its token does.
+    ensures placed { IfOk result ArePlaced }
 {
     answer(alloc, source)
 }

@@ -14,8 +14,11 @@ use crate::name::reserved_word;
 use crate::number::number_at;
 use crate::sign::{in_context, mark_at};
 use crate::stop::Stop;
-use mo_syntax::{Before, Mark, Name, Place, TokenKind};
+use mo_syntax::{Before, Mark, Name, Place, Text, TokenKind};
 use std::alloc::Global;
+
+// A name or text gets its place with its token.
+const NOWHERE: Place = Place { start: 0, end: 0 };
 
 /// A piece: its kind where it is a token, what it leaves directly before the next one, and how many bytes it has.
 #[derive(Drop)]
@@ -67,7 +70,11 @@ pub fn piece_at(alloc: Global, source: &str, place: usize, before: Before) -> Re
         }
         b'"' => {
             let found = text_at(alloc, text, place as u32)?;
-            Ok(token(TokenKind::Text(found.bytes), found.len))
+            let value = Text {
+                bytes: found.bytes,
+                place: NOWHERE,
+            };
+            Ok(token(TokenKind::Text(value), found.len))
         }
         _ => sign_at(text, place as u32, before),
     }
@@ -113,8 +120,7 @@ fn name_at(alloc: Global, text: &[u8]) -> Result<Found, Stop>
     let kind = match reserved_word(name) {
         Some(word) => TokenKind::Reserved(word),
         None if name == b"_".as_slice() => TokenKind::Mark(Mark::Underscore),
-        // It gets its place with its token.
-        None => TokenKind::Identifier(Name::new(alloc, Place { start: 0, end: 0 }, name)?),
+        None => TokenKind::Identifier(Name::new(alloc, NOWHERE, name)?),
     };
     Ok(token(kind, len))
 }

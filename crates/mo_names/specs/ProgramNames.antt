@@ -25,9 +25,9 @@ use Rattle.mo_bindings.specs.ExpressionNames.{annotation, function, in_expressio
 
 -- ---- imports
 
--- A path that names no module is a fault at the name that it was to give.
+-- A path that names no module is a fault at the path.
 abbrev pub in_import : written.Import → List Finding
-in_import x = identifier x.name ++ broken_where (is_none (library_of x.path)) rule.Unknown x.name
+in_import x = identifier x.name ++ broken_where (is_none (library_of x.path.bytes)) rule.Unknown x.path.place
 
 -- ---- fields of the actor
 
@@ -46,7 +46,7 @@ shared_function x s = whole (in_prefix x.prefix) s
 
 abbrev pub in_actor_field : Scope → ActorField → List Finding
 in_actor_field s (field.Public x) = shared_function x s
-in_actor_field s (field.System x equal_sign body) = identifier x ++ (broken_where (not (contains system_functions x.bytes)) rule.Unknown x ++ (in_expression body).finds s)
+in_actor_field s (field.System x equal_sign body) = identifier x ++ (broken_where (not (contains system_functions x.bytes)) rule.Unknown x.place ++ (in_expression body).finds s)
 in_actor_field s (field.Declared private x) = (in_declaration x).finds s
 in_actor_field s (field.Stable private x kind a) = label x ++ (annotation kind s ++ (in_expression a).finds s)
 
@@ -95,7 +95,7 @@ abbrev pub import_names : List written.Import → Names
 import_names imports = map (λ x. x.name) imports
 
 abbrev pub program_scope : List written.Import → Actor → Scope
-program_scope imports actor = record { values = texts (name_of actor.name ++ flat_map field_values actor.fields); imports = texts (import_names imports); libraries = map (λ x. library_of x.path) imports; types = texts (flat_map field_types actor.fields); loops = [] }
+program_scope imports actor = record { values = texts (name_of actor.name ++ flat_map field_values actor.fields); imports = texts (import_names imports); libraries = map (λ x. library_of x.path.bytes) imports; types = texts (flat_map field_types actor.fields); loops = [] }
 
 unfoldable pub in_actor : List written.Import → Actor → List Finding
 in_actor imports actor = actor_names actor.fields ++ flat_map (in_actor_field (program_scope imports actor)) actor.fields

@@ -7,11 +7,12 @@ use mo_scopes::{Breach, Rule};
 use mo_syntax::Place;
 use thiserror::Error;
 
-/// Why the names of a program are refused, and where: the condition of this name is false at the name that stands there.
+/// Why the names of a program are refused, and where: the condition of this name is false at the name, or the path of an
+/// import, that stands there.
 #[derive(Clone, Copy, Debug, PartialEq, Eq, Error)]
 pub enum NameFault {
-    /// A name has no meaning where it is used.
-    #[error("the name at byte {start} has no meaning", start = .0.start)]
+    /// A name has no meaning where it is used, or a path names no module.
+    #[error("the name or path at byte {start} has no meaning", start = .0.start)]
     Unknown(Place),
     /// A name is bound twice in one list, pattern or type.
     #[error("the name at byte {start} is bound twice", start = .0.start)]

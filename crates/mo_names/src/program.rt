@@ -31,8 +31,8 @@ impl ProgramWalk {
         ensures { OnOk result (found.new ≡ found.old ++ in_import import.now) }
     {
         identifier(&import.name, found)?;
-        let library = library_of(import.path.get().as_slice());
-        broken_where(library.is_none(), Rule::Unknown, &import.name, found)
+        let library = library_of(import.path.as_slice());
+        broken_where(library.is_none(), Rule::Unknown, import.path.place(), found)
     }
 
     fn each_import(self, imports: &[Node<Import>], found: &mut Findings) -> Result<(), Memory>
@@ -57,11 +57,11 @@ impl ProgramWalk {
 
     /// What the imports bring in.
     fn libraries_of(self, imports: &[Node<Import>]) -> Result<Sequence<Option<Library>>, Memory>
-        ensures { IfOk result (λ made. made ≡ map (λ x. library_of x.path) imports.now) }
+        ensures { IfOk result (λ made. made ≡ map (λ x. library_of x.path.bytes) imports.now) }
     {
         let mut libraries = Sequence::new(self.walk.alloc);
         for one in imports {
-            libraries.push(library_of(one.get().path.get().as_slice()))?;
+            libraries.push(library_of(one.get().path.as_slice()))?;
         }
         Ok(libraries)
     }
@@ -173,7 +173,7 @@ impl ProgramWalk {
             ActorField::System(name, _, body) => {
                 identifier(name, found)?;
                 let is_other = !is_system_function(name.as_slice());
-                broken_where(is_other, Rule::Unknown, name, found)?;
+                broken_where(is_other, Rule::Unknown, name.place(), found)?;
                 find_in_expression(self.walk, body.get(), scope, found)
             }
             ActorField::Declared(_, declaration) => {

@@ -26,9 +26,7 @@ fn one_import(alloc: Global, tokens: &mut Cursor<'_>) -> Result<Node<Import>, St
     tokens.expect_word(Word::Import)?;
     let name = tokens.identifier(alloc)?;
     let equal_sign = tokens.eat_mark(Mark::EqualSign);
-    let behind = tokens.start();
-    let text = tokens.text(alloc)?;
-    let path = tokens.node(alloc, behind, text)?;
+    let path = tokens.text(alloc)?;
     tokens.expect_mark(Mark::Semicolon)?;
     let made = Import {
         name,

@@ -3,6 +3,7 @@ use Rattle.std.proofs.Common.{◌≡◌, ℕ, Bool, true, false, List, [], ◌�
 use Rattle.std.specs.Prelude.{if◌then◌else◌, ◌≢◌}
 use denote.Enum.Bare.{same_true, same_false, true_same, false_same}
 use Rattle.mo_syntax.specs.declared.name.Name.{Name}
+use Rattle.mo_syntax.specs.declared.text.Text.{Text}
 use Rattle.mo_syntax.specs.contracts.mark.Mark as a_mark
 use Rattle.mo_syntax.specs.contracts.word.Word as a_word
 use Rattle.mo_syntax.specs.declared.token.TokenKind.{TokenKind}
@@ -148,7 +149,7 @@ number_ok [] x j h = absurd (cc)
 number_ok (t.Number y ∷ i) x j h = ap (λ z. t.Number z.0 ∷ z.1) (some_is (y, i) (x, j) h)
 number_ok (_ ∷ i) x j h = absurd (cc)
 
-pub text_ok : (i : Input) (n : List ℕ) (j : Input) → text i ≡ Some (n, j) → i ≡ t.Text n ∷ j
+pub text_ok : (i : Input) (n : Text) (j : Input) → text i ≡ Some (n, j) → i ≡ t.Text n ∷ j
 unfolding text
 text_ok [] x j h = absurd (cc)
 text_ok (t.Text y ∷ i) x j h = ap (λ z. t.Text z.0 ∷ z.1) (some_is (y, i) (x, j) h)

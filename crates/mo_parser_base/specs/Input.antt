@@ -2,6 +2,7 @@
 use Rattle.std.specs.Prelude.{◌≡◌, ◌≢◌, ℕ, zero, suc, Bool, true, false, if◌then◌else◌, List, [], ◌∷◌, ◌++◌, length, map, Option, Some, None, Result, Ok, Err}
 use denote.Enum.Bare.{sameb}
 use Rattle.mo_syntax.specs.declared.name.Name.{Name}
+use Rattle.mo_syntax.specs.declared.text.Text.{Text}
 use Rattle.mo_syntax.specs.declared.token.Token.{Token}
 use Rattle.mo_syntax.specs.declared.token.TokenKind.{TokenKind}
 use Rattle.mo_syntax.specs.declared.token.TokenKind.TheVariants as t
@@ -27,7 +28,7 @@ Outcome A = Option (A × Input)
 abbrev pub Parser : Type 0 → Type 0
 Parser A = Input → Outcome A
 
--- what the tokens are, without their places but for those of names
+-- what the tokens are, without their places but for those of names and texts
 abbrev pub kinds : List Token → Input
 kinds tokens = map (λ x. x.kind) tokens
 
@@ -64,7 +65,7 @@ abbrev pub look_of : TokenKind → Look
 look_of (t.Identifier x) = l.Identifier
 look_of (t.Number n) = l.Number
 look_of (t.Character c) = l.Character
-look_of (t.Text bytes) = l.Text
+look_of (t.Text x) = l.Text
 look_of (t.Reserved word) = l.Reserved word
 look_of (t.Mark mark) = l.Mark mark
 
@@ -122,14 +123,14 @@ unfoldable pub number : Parser ℕ
 number (t.Number n ∷ i) = Some (n, i)
 number i = None
 
-unfoldable pub text : Parser (List ℕ)
+unfoldable pub text : Parser Text
 text (t.Text x ∷ i) = Some (x, i)
 text i = None
 
 abbrev pub literal_of : TokenKind → Option Literal
 literal_of (t.Number n) = Some (lit.Number n)
 literal_of (t.Character c) = Some (lit.Character c)
-literal_of (t.Text bytes) = Some (lit.Text bytes)
+literal_of (t.Text x) = Some (lit.Text x)
 literal_of (t.Reserved w.True) = Some lit.True
 literal_of (t.Reserved w.False) = Some lit.False
 literal_of (t.Reserved w.Null) = Some lit.Null

@@ -6,12 +6,12 @@ ghost use Rattle.mo_syntax.specs.declared.token.TokenKind.{TokenKind};
 
 use crate::look::Look;
 use crate::stop::Stop;
-use mo_num::{Bytes, Memory};
-use mo_syntax::{Literal, Mark, Name, Node, Place, Token, TokenKind, Word};
+use mo_num::Memory;
+use mo_syntax::{Literal, Mark, Name, Node, Place, Text, Token, TokenKind, Word};
 use std::alloc::Global;
 use std::marker::Model;
 
-/// The tokens that are left, which contracts see as the list of what they are. Of their places, those of names alone are a part of it.
+/// The tokens that are left, which contracts see as the list of what they are. Of their places, those of names and texts alone are a part of it.
 #[derive(Drop)]
 pub struct Cursor<'a> {
     rest: &'a [Token],
@@ -298,7 +298,7 @@ impl<'a> Cursor<'a> {
 
     /// Takes a text, which must come next.
     #[tactic(auto, unfolding(crate::specs::Input::text))]
-    pub fn text(&mut self, alloc: Global) -> Result<Bytes, Stop>
+    pub fn text(&mut self, alloc: Global) -> Result<Text, Stop>
         ensures { Reads (spec.text self.old) result self.new }
     {
         match self.rest {
@@ -312,7 +312,7 @@ impl<'a> Cursor<'a> {
             ] => {
                 self.rest = rest;
                 self.end = *end;
-                Ok(Bytes::from_slice(alloc, text.as_slice())?)
+                Ok(text.copy(alloc)?)
             }
             _ => Err(Stop::Refused),
         }
@@ -344,10 +344,7 @@ fn literal_of(alloc: Global, kind: &TokenKind) -> Result<Option<Literal>, Memory
     match kind {
         TokenKind::Number(number) => Ok(Some(Literal::Number(*number))),
         TokenKind::Character(character) => Ok(Some(Literal::Character(*character))),
-        TokenKind::Text(text) => Ok(Some(Literal::Text(Bytes::from_slice(
-            alloc,
-            text.as_slice(),
-        )?))),
+        TokenKind::Text(text) => Ok(Some(Literal::Text(text.copy(alloc)?))),
         TokenKind::Reserved(Word::True) => Ok(Some(Literal::True)),
         TokenKind::Reserved(Word::False) => Ok(Some(Literal::False)),
         TokenKind::Reserved(Word::Null) => Ok(Some(Literal::Null)),

@@ -2,6 +2,7 @@
 use Rattle.std.proofs.Common.{◌≡◌, ℕ, zero, suc, ◌+◌, ◌<◌, Bool, true, false, List, [], ◌∷◌, ◌++◌, length, map, option_map, Some, None, refl, sym, ap, subst, arith, length-append}
 use Rattle.std.specs.Prelude.{◌≢◌}
 use Rattle.mo_syntax.specs.declared.name.Name.{Name}
+use Rattle.mo_syntax.specs.declared.text.Text.{Text}
 use Rattle.mo_syntax.specs.declared.token.TokenKind.{TokenKind}
 use Rattle.mo_syntax.specs.declared.token.TokenKind.TheVariants as t
 use Rattle.mo_syntax.specs.declared.word.Word.{Word}
@@ -50,7 +51,7 @@ begun same = subst (λ u. 0 < length u) (sym same) (omega arith)
 longer : {z : Input} (a v : Input) → z ≡ a ++ v → 0 < length a → 0 < length z
 longer a v same some = subst (λ u. 0 < length u) (sym same) (omega (arith, length-append a v))
 
-actor_some : (in_parens : Bool) (x : List ℕ) → HasTokens (e.ActorReference in_parens x)
+actor_some : (in_parens : Bool) (x : Text) → HasTokens (e.ActorReference in_parens x)
 actor_some true x = begun (eq.tokens_ActorReference true x)
 actor_some false x = begun (eq.tokens_ActorReference false x)
 

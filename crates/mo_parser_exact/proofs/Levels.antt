@@ -1,6 +1,7 @@
 -- The levels of expressions: how tightly each kind of tree binds.
 use Rattle.std.proofs.Common.{◌≡◌, ℕ, ◌≤◌, Bool, List, Option, Some, None, refl, sym, subst, arith}
 use Rattle.mo_syntax.specs.declared.name.Name.{Name}
+use Rattle.mo_syntax.specs.declared.text.Text.{Text}
 use Rattle.mo_syntax.specs.declared.token.TokenKind.{TokenKind}
 use Rattle.mo_syntax.specs.declared.types.TypeExpression.{TypeExpression}
 use Rattle.mo_syntax.specs.declared.patterns.Pattern.{Pattern}
@@ -347,10 +348,10 @@ at_Object x0 x1 l n good = (rule_out2 (eq.rule_Object x0 x1) l n good).0
 pub move_Object : (x0 : List ExpressionField) (x1 : Bool) (l k : ℕ) (n : Next) → (l ≤ 9 → k ≤ 9) → IsExpression (e.Object x0 x1) l n → IsExpression (e.Object x0 x1) k n
 move_Object x0 x1 l k n fit good = rule_in2 (eq.rule_Object x0 x1) k n (let u = rule_out2 (eq.rule_Object x0 x1) l n good in (fit u.0, u.1))
 
-pub at_ActorReference : (x0 : Bool) (x1 : List ℕ) (l : ℕ) (n : Next) → IsExpression (e.ActorReference x0 x1) l n → l ≤ 9
+pub at_ActorReference : (x0 : Bool) (x1 : Text) (l : ℕ) (n : Next) → IsExpression (e.ActorReference x0 x1) l n → l ≤ 9
 at_ActorReference x0 x1 l n good = rule_out2 (eq.rule_ActorReference x0 x1) l n good
 
-pub move_ActorReference : (x0 : Bool) (x1 : List ℕ) (l k : ℕ) (n : Next) → (l ≤ 9 → k ≤ 9) → IsExpression (e.ActorReference x0 x1) l n → IsExpression (e.ActorReference x0 x1) k n
+pub move_ActorReference : (x0 : Bool) (x1 : Text) (l k : ℕ) (n : Next) → (l ≤ 9 → k ≤ 9) → IsExpression (e.ActorReference x0 x1) l n → IsExpression (e.ActorReference x0 x1) k n
 move_ActorReference x0 x1 l k n fit good = rule_in2 (eq.rule_ActorReference x0 x1) k n (let u = rule_out2 (eq.rule_ActorReference x0 x1) l n good in fit u)
 
 pub at_Block : (x0 : List Declaration) (x1 : Bool) (l : ℕ) (n : Next) → IsExpression (e.Block x0 x1) l n → l ≡ 11

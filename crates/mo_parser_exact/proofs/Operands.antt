@@ -2,6 +2,7 @@
 use Rattle.std.proofs.Common.{◌≡◌, ℕ, zero, suc, ◌+◌, ◌<◌, ◌≤◌, Bool, true, false, List, [], ◌∷◌, ◌++◌, length, map, option_map, Option, Some, None, refl, sym, ap, ◌∙◌, subst, arith, append_assoc}
 use Rattle.std.specs.Prelude.{◌≢◌, if◌then◌else◌}
 use Rattle.mo_syntax.specs.declared.name.Name.{Name}
+use Rattle.mo_syntax.specs.declared.text.Text.{Text}
 use Rattle.mo_syntax.specs.declared.token.TokenKind.{TokenKind}
 use Rattle.mo_syntax.specs.declared.token.TokenKind.TheVariants as t
 use Rattle.mo_syntax.specs.declared.word.Word.TheVariants as w
@@ -318,7 +319,7 @@ module _ (b : ℕ) (P : ℕ → Parser Expression) (D : Parser Declaration) (h :
   read_record xs last r short good =
       makes_behind (t.Mark m.BraceOpen) entries_exact to_record expression_tokens (xs, last) (eq.tokens_Object xs last) (p.atom P D) r refl short (rule_out2 (eq.rule_Object xs last) 9 (first r) good).1 tt
 
-  pub read_actor : (in_parens : Bool) (x : List ℕ) → AtomRead (e.ActorReference in_parens x)
+  pub read_actor : (in_parens : Bool) (x : Text) → AtomRead (e.ActorReference in_parens x)
   unfolding p.atom p.actor_reference text
   read_actor true x r short good = ap (λ z. p.atom P D (z ++ r)) (eq.tokens_ActorReference true x)
       ∙ eat_takes_then (t.Mark m.ParenOpen) tt (t.Text x ∷ t.Mark m.ParenClose ∷ r) (λ in_parens. (λ y. e.ActorReference in_parens y) <$> (if in_parens then text ◂ t.Mark m.ParenClose else text))

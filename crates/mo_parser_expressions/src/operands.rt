@@ -11,10 +11,9 @@ ghost use Rattle.mo_syntax.specs.declared.word.Word.{Word};
 
 use crate::grammar::Grammar;
 use crate::signs::{begins_postfix, goes_on};
-use mo_num::Bytes;
 use mo_parser_base::{Cursor, Look, Stop};
 use mo_parser_types::read_type_arguments;
-use mo_syntax::{Declaration, Expression, Mark, Node, Word};
+use mo_syntax::{Declaration, Expression, Mark, Node, Text, Word};
 use std::alloc::Global;
 
 impl<
@@ -94,7 +93,7 @@ impl<
         Ok(Expression::Object(fields, last))
     }
 
-    fn closed_text(&self, tokens: &mut Cursor<'_>) -> Result<Bytes, Stop>
+    fn closed_text(&self, tokens: &mut Cursor<'_>) -> Result<Text, Stop>
         ensures { Reads ((input.◌◂◌ input.text (TokenKind.Mark Mark.ParenClose)) tokens.old) result tokens.new }
     {
         let text = tokens.text(self.alloc)?;

@@ -1,6 +1,7 @@
 -- Reading programs from left to right, rule by rule.
 use Rattle.std.specs.Prelude.{ℕ, zero, suc, Bool, true, false, if◌then◌else◌, List, [], ◌∷◌, ◌++◌, length, Option, Some, None}
 use Rattle.mo_syntax.specs.declared.name.Name.{Name}
+use Rattle.mo_syntax.specs.declared.text.Text.{Text}
 use Rattle.mo_syntax.specs.declared.token.TokenKind.TheVariants as t
 use Rattle.mo_syntax.specs.declared.word.Word.TheVariants as w
 use Rattle.mo_syntax.specs.declared.mark.Mark.TheVariants as m
@@ -27,7 +28,7 @@ use Rattle.mo_parser_expressions.specs.Expressions.{an_expression, a_declaration
 
 -- ---- the trees of what is read
 
-abbrev pub to_import : Name × (Bool × List ℕ) → Import
+abbrev pub to_import : Name × (Bool × Text) → Import
 to_import z = record { name = z.0; equal_sign = z.1.0; path = z.1.1 }
 
 abbrev pub to_actor : Option Name × (Bool × (List ActorField × Bool)) → Actor

@@ -5,6 +5,7 @@ use Rattle.std.specs.List.{list_any, flat_map}
 use Rattle.std.specs.Str.{bytes_eq}
 use Rattle.std.specs.Char.{is_ascii_digit}
 use Rattle.mo_syntax.specs.declared.name.Name.{Name}
+use Rattle.mo_syntax.specs.declared.place.Place.{Place}
 use Rattle.mo_types.specs.Label.{label_id}
 use Rattle.mo_scopes.specs.declared.scope.Scope.{Scope}
 use Rattle.mo_scopes.specs.declared.meaning.Meaning.{Meaning}
@@ -44,23 +45,23 @@ is_position (x ∷ y ∷ rest) = (x == 95) && (is_ascii_digit y && digits_and_ma
 
 -- ---- the rules
 
--- where the rule is broken, its breach at the name
-abbrev pub broken_where : Bool → Rule → Name → List Finding
-broken_where true r x = finding.Breach (record { rule = r; place = x.place }) ∷ []
-broken_where false r x = []
+-- where the rule is broken, its breach at the place
+abbrev pub broken_where : Bool → Rule → Place → List Finding
+broken_where true r place = finding.Breach (record { rule = r; place = place }) ∷ []
+broken_where false r place = []
 
 -- of a name
 abbrev pub identifier : Name → List Finding
-identifier x = broken_where (begins_reserved x.bytes) rule.Reserved x
+identifier x = broken_where (begins_reserved x.bytes) rule.Reserved x.place
 
 -- of a label of an object, variant or actor
 abbrev pub label : Name → List Finding
-label x = broken_where (begins_reserved x.bytes || is_position x.bytes) rule.Reserved x
+label x = broken_where (begins_reserved x.bytes || is_position x.bytes) rule.Reserved x.place
 
 -- of the names that one list, pattern or type binds behind these: no name stands twice
 abbrev pub behind : Texts → Names → List Finding
 behind front [] = []
-behind front (x ∷ xs) = broken_where (contains front x.bytes) rule.Twice x ++ behind (front ++ x.bytes ∷ []) xs
+behind front (x ∷ xs) = broken_where (contains front x.bytes) rule.Twice x.place ++ behind (front ++ x.bytes ∷ []) xs
 
 abbrev pub together : Names → List Finding
 together = behind []
@@ -75,7 +76,7 @@ with_number numbers n = cond (has_number numbers n) numbers (numbers ++ n ∷ []
 -- of the labels of one object, variant or actor behind those of these numbers: no number stands twice
 abbrev pub numbered_behind : List ℕ → Names → List Finding
 numbered_behind front [] = []
-numbered_behind front (x ∷ xs) = broken_where (has_number front (label_id x.bytes)) rule.LabelClash x ++ numbered_behind (with_number front (label_id x.bytes)) xs
+numbered_behind front (x ∷ xs) = broken_where (has_number front (label_id x.bytes)) rule.LabelClash x.place ++ numbered_behind (with_number front (label_id x.bytes)) xs
 
 abbrev pub labels : Names → List Finding
 labels = numbered_behind []
@@ -83,7 +84,7 @@ labels = numbered_behind []
 -- of the use of a name with or without a meaning
 abbrev pub used : Option Meaning → Name → List Finding
 used (Some meaning) x = finding.Meaning meaning ∷ []
-used None x = broken_where true rule.Unknown x
+used None x = broken_where true rule.Unknown x.place
 
 -- of each
 abbrev pub each_identifier : Names → List Finding

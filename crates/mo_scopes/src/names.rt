@@ -10,7 +10,7 @@ use crate::rule::{Breach, Rule};
 use indexmap::IndexSet;
 use mo_name_table::NameTable;
 use mo_num::Memory;
-use mo_syntax::Name;
+use mo_syntax::{Name, Place};
 use mo_types::label_id;
 use std::alloc::Global;
 
@@ -45,20 +45,17 @@ fn is_position(name: &[u8]) -> bool
     }
 }
 
-/// Adds that the rule is broken at the name, where it is.
+/// Adds that the rule is broken at the place, where it is.
 pub fn broken_where(
     is_broken: bool,
     rule: Rule,
-    name: &Name,
+    place: Place,
     found: &mut Findings,
 ) -> Result<(), Memory>
-    ensures { OnOk result (found.new ≡ found.old ++ broken_where is_broken rule name.now) }
+    ensures { OnOk result (found.new ≡ found.old ++ broken_where is_broken rule place) }
 {
     if is_broken {
-        found.push(Finding::Breach(Breach {
-            rule,
-            place: name.place(),
-        }))
+        found.push(Finding::Breach(Breach { rule, place }))
     } else {
         Ok(())
     }
@@ -71,7 +68,7 @@ pub fn identifier(name: &Name, found: &mut Findings) -> Result<(), Memory>
     broken_where(
         begins_reserved(name.as_slice()),
         Rule::Reserved,
-        name,
+        name.place(),
         found,
     )
 }
@@ -83,7 +80,7 @@ pub fn label(name: &Name, found: &mut Findings) -> Result<(), Memory>
     broken_where(
         begins_reserved(name.as_slice()) || is_position(name.as_slice()),
         Rule::Reserved,
-        name,
+        name.place(),
         found,
     )
 }
@@ -94,7 +91,7 @@ pub fn used(meaning: Option<Meaning>, name: &Name, found: &mut Findings) -> Resu
 {
     match meaning {
         Some(meaning) => found.push(Finding::Meaning(meaning)),
-        None => broken_where(true, Rule::Unknown, name, found),
+        None => broken_where(true, Rule::Unknown, name.place(), found),
     }
 }
 
@@ -133,7 +130,7 @@ pub fn together(alloc: Global, names: &[Name], found: &mut Findings) -> Result<(
     let mut front = NameTable::new(alloc);
     for name in names {
         let is_there = note_name(&mut front, name)?;
-        broken_where(is_there, Rule::Twice, name, found)?;
+        broken_where(is_there, Rule::Twice, name.place(), found)?;
     }
     Ok(())
 }
@@ -154,7 +151,7 @@ pub fn labels(alloc: Global, names: &[Name], found: &mut Findings) -> Result<(),
     let mut front = IndexSet::new(alloc);
     for name in names {
         let clashes = note_number(&mut front, label_id(name.as_slice()))?;
-        broken_where(clashes, Rule::LabelClash, name, found)?;
+        broken_where(clashes, Rule::LabelClash, name.place(), found)?;
     }
     Ok(())
 }

@@ -4,7 +4,7 @@ use mo_syntax::Place;
 /// A rule on the names of a program. Of those that are broken at one place the first in this order is named.
 #[derive(Clone, Copy)]
 pub enum Rule {
-    /// Each name that is used has a meaning.
+    /// Each name that is used has a meaning, and each path names a module.
     Unknown,
     /// No name is bound twice in one list, pattern or type.
     Twice,

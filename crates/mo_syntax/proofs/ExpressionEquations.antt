@@ -1,6 +1,7 @@
 -- The equations of the writing and of the grammar, at each kind of tree.
 use Rattle.std.proofs.Common.{◌≡◌, ℕ, ◌≤◌, Bool, true, false, List, Option, Some, None, refl, ap, ◌∙◌, sym, map, option_map}
 use Rattle.mo_syntax.specs.declared.name.Name.{Name}
+use Rattle.mo_syntax.specs.declared.text.Text.{Text}
 use Rattle.mo_syntax.specs.declared.declarations.Visibility.{Visibility}
 use Rattle.mo_syntax.specs.declared.token.TokenKind.{TokenKind}
 use Rattle.mo_syntax.specs.declared.token.TokenKind.TheVariants as t
@@ -207,7 +208,7 @@ pub tokens_Object : (x0 : List ExpressionField) (x1 : Bool) → expression_token
 unfolding declaration_tokens expression_tokens declaration_field_tokens case_tokens expression_field_tokens
 tokens_Object x0 x1 = ap expression_tokens (sym (e.rolls-Object x0 x1)) ∙ fold-roll-Expression Writing Writing Writing Writing Writing declaration_step expression_step declaration_field_step case_step expression_field_step (F.Object x0 x1)
 
-pub tokens_ActorReference : (x0 : Bool) (x1 : List ℕ) → expression_tokens (e.ActorReference x0 x1) ≡ expression_step (F.ActorReference x0 x1)
+pub tokens_ActorReference : (x0 : Bool) (x1 : Text) → expression_tokens (e.ActorReference x0 x1) ≡ expression_step (F.ActorReference x0 x1)
 unfolding declaration_tokens expression_tokens declaration_field_tokens case_tokens expression_field_tokens
 tokens_ActorReference x0 x1 = ap expression_tokens (sym (e.rolls-ActorReference x0 x1)) ∙ fold-roll-Expression Writing Writing Writing Writing Writing declaration_step expression_step declaration_field_step case_step expression_field_step (F.ActorReference x0 x1)
 
@@ -459,7 +460,7 @@ rule_Array x0 x1 = ap IsExpression (sym (e.rolls-Array x0 x1)) ∙ rule_Expressi
 pub rule_Object : (x0 : List ExpressionField) (x1 : Bool) → IsExpression (e.Object x0 x1) ≡ expression_rule Declaration Expression DeclarationField Case ExpressionField expression_tokens IsDeclaration IsExpression IsDeclarationField IsCase IsExpressionField (F.Object x0 x1)
 rule_Object x0 x1 = ap IsExpression (sym (e.rolls-Object x0 x1)) ∙ rule_Expression (F.Object x0 x1)
 
-pub rule_ActorReference : (x0 : Bool) (x1 : List ℕ) → IsExpression (e.ActorReference x0 x1) ≡ expression_rule Declaration Expression DeclarationField Case ExpressionField expression_tokens IsDeclaration IsExpression IsDeclarationField IsCase IsExpressionField (F.ActorReference x0 x1)
+pub rule_ActorReference : (x0 : Bool) (x1 : Text) → IsExpression (e.ActorReference x0 x1) ≡ expression_rule Declaration Expression DeclarationField Case ExpressionField expression_tokens IsDeclaration IsExpression IsDeclarationField IsCase IsExpressionField (F.ActorReference x0 x1)
 rule_ActorReference x0 x1 = ap IsExpression (sym (e.rolls-ActorReference x0 x1)) ∙ rule_Expression (F.ActorReference x0 x1)
 
 pub rule_Block : (x0 : List Declaration) (x1 : Bool) → IsExpression (e.Block x0 x1) ≡ expression_rule Declaration Expression DeclarationField Case ExpressionField expression_tokens IsDeclaration IsExpression IsDeclarationField IsCase IsExpressionField (F.Block x0 x1)

@@ -1,6 +1,7 @@
 -- Induction over trees: what holds of a tree where it holds of its parts holds of each tree.
 use Rattle.std.proofs.Common.{ℕ, Bool, List, Option, Some, None, subst, sym, map}
 use Rattle.mo_syntax.specs.declared.name.Name.{Name}
+use Rattle.mo_syntax.specs.declared.text.Text.{Text}
 use Rattle.mo_syntax.specs.declared.declarations.Visibility.{Visibility}
 use Rattle.mo_syntax.specs.declared.types.TypeExpression.{TypeExpression}
 use Rattle.mo_syntax.specs.declared.types.TypeParameter.{TypeParameter}
@@ -73,7 +74,7 @@ pub record Cases (C : Claims) : Type 0 where
   pub Parenthesized : (x0 : List Expression) → Each C.of_Expression x0 → C.of_Expression (e.Parenthesized x0)
   pub Array : (x0 : Bool) (x1 : List Expression) → Each C.of_Expression x1 → C.of_Expression (e.Array x0 x1)
   pub Object : (x0 : List ExpressionField) (x1 : Bool) → Each C.of_ExpressionField x0 → C.of_Expression (e.Object x0 x1)
-  pub ActorReference : (x0 : Bool) (x1 : List ℕ) → C.of_Expression (e.ActorReference x0 x1)
+  pub ActorReference : (x0 : Bool) (x1 : Text) → C.of_Expression (e.ActorReference x0 x1)
   pub Block : (x0 : List Declaration) (x1 : Bool) → Each C.of_Declaration x0 → C.of_Expression (e.Block x0 x1)
   pub DeclarationField_ : (x0 : Option Visibility) (x1 : Declaration) → C.of_Declaration x1 → C.of_DeclarationField (roll-DeclarationField (record { visibility = x0; declaration = x1 }))
   pub Case_ : (x0 : Pattern) (x1 : Expression) → C.of_Expression x1 → C.of_Case (roll-Case (record { pattern = x0; body = x1 }))

@@ -199,7 +199,7 @@ begins_postfix None = false
 begins_postfix (Some (t.Identifier x)) = true
 begins_postfix (Some (t.Number n)) = true
 begins_postfix (Some (t.Character c)) = true
-begins_postfix (Some (t.Text bytes)) = true
+begins_postfix (Some (t.Text text)) = true
 begins_postfix (Some (t.Reserved word)) = word_begins_postfix word
 begins_postfix (Some (t.Mark mark)) = mark_begins_postfix mark
 

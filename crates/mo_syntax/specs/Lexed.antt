@@ -151,10 +151,10 @@ IsToken before (t.Identifier name) text rest = (name ≡ record { bytes = text; 
 IsToken before (t.Reserved word) text rest = (word_of text ≡ Some word) × (is_name text ≡ true) × (begins is_name_byte rest ≡ false)
 IsToken before (t.Number n) text rest = (IsDecimal text n rest ⊎ IsHexadecimal text n rest) × (n < 2 ^ 64)
 IsToken before (t.Character c) text rest = IsCharacter text c
-IsToken before (t.Text bytes) text rest = IsText text bytes
+IsToken before (t.Text value) text rest = (value.place ≡ nowhere) × IsText text value.bytes
 IsToken before (t.Mark mark) text rest = (text ≡ mark_text mark) × IsLongestMark mark rest × (begins_comment (text ++ rest) ≡ false) × Fits before mark rest
 
--- A text is made of pieces: blanks, comments and tokens. A name has no place before it is known where its piece stands.
+-- A text is made of pieces: blanks, comments and tokens. A name or text has no place before it is known where its piece stands.
 pub data Piece : Type 0 where
   blank : ℕ → Piece
   comment : List ℕ → Piece
@@ -189,7 +189,7 @@ tokens_at place (blank b) = []
 tokens_at place (comment text) = []
 tokens_at place (token kind text) = record { kind = placed (record { start = place; «end» = place + length text }) kind; start = place; «end» = place + length text } ∷ []
 
--- the tokens among the pieces, with their places and those of their names, where the first piece begins at the place
+-- the tokens among the pieces, with their places and those of their names and texts, where the first piece begins at the place
 abbrev pub tokens_from : ℕ → List Piece → List Token
 tokens_from place [] = []
 tokens_from place (piece ∷ pieces) = tokens_at place piece ++ tokens_from (place + length (piece_text piece)) pieces

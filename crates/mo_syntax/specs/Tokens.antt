@@ -31,15 +31,16 @@ before_of (t.Identifier name) = b.Operand
 before_of (t.Reserved word) = before_of_word word
 before_of (t.Number n) = b.Operand
 before_of (t.Character c) = b.Operand
-before_of (t.Text bytes) = b.Operand
+before_of (t.Text text) = b.Operand
 before_of (t.Mark mark) = before_of_mark mark
 
--- the kind of a token that stands there: a name has its place
+-- the kind of a token that stands there: a name or text has its place
 abbrev pub placed : Place → TokenKind → TokenKind
 placed place (t.Identifier name) = t.Identifier (record { bytes = name.bytes; place = place })
+placed place (t.Text text) = t.Text (record { bytes = text.bytes; place = place })
 placed place kind = kind
 
--- of a name whose place is not said
+-- of a name or text whose place is not said
 abbrev pub nowhere : Place
 nowhere = record { start = 0; «end» = 0 }
 

@@ -69,7 +69,7 @@ tag name = t.Mark m.Tag ∷ t.Identifier name ∷ []
 abbrev pub literal_token : Literal → TokenKind
 literal_token (lit.Number n) = t.Number n
 literal_token (lit.Character c) = t.Character c
-literal_token (lit.Text bytes) = t.Text bytes
+literal_token (lit.Text text) = t.Text text
 literal_token lit.True = t.Reserved w.True
 literal_token lit.False = t.Reserved w.False
 literal_token lit.Null = t.Reserved w.Null

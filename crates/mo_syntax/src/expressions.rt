@@ -6,8 +6,8 @@ use crate::name::Name;
 use crate::node::Node;
 use crate::operators::{AssignmentOperator, BinaryOperator};
 use crate::patterns::{Parameters, Pattern};
+use crate::text::Text;
 use crate::types::TypeExpression;
-use mo_num::Bytes;
 
 /// An expression, or a block where one may stand in its place.
 #[cycle(expression)]
@@ -86,7 +86,7 @@ pub enum Expression {
     /// `{ x = e; y }`, with a last `;` or not.
     Object(Items<Node<ExpressionField>>, bool),
     /// `actor "id"`, or with parentheses `actor ("id")`.
-    ActorReference(bool, Bytes),
+    ActorReference(bool, Text),
     /// `{ d; e }`, with a last `;` or not.
     Block(Items<Node<Declaration>>, bool),
 }

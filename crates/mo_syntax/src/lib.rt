@@ -13,6 +13,7 @@ mod operators;
 mod patterns;
 mod place;
 mod program;
+mod text;
 mod token;
 mod types;
 mod word;
@@ -31,6 +32,7 @@ pub use place::Place;
 pub use program::{
     Actor, ActorField, Context, Import, SharedFunction, SharedPrefix, SharedSort, Tree,
 };
+pub use text::Text;
 pub use token::{Kinds, Token, TokenKind, Tokens};
 pub use types::{Sharing, TypeExpression, TypeField, TypeItem, TypeMethod, TypeParameter, TypeTag};
 pub use word::Word;

@@ -1,5 +1,5 @@
 //! Literals.
-use mo_num::Bytes;
+use crate::text::Text;
 
 /// A literal, as its value.
 #[derive(Drop)]
@@ -8,8 +8,8 @@ pub enum Literal {
     Number(u64),
     /// A character, as its Unicode scalar value.
     Character(u32),
-    /// A text, as its bytes.
-    Text(Bytes),
+    /// A text, as the bytes that it stands for.
+    Text(Text),
     True,
     False,
     Null,

@@ -5,8 +5,8 @@ use crate::items::Items;
 use crate::name::Name;
 use crate::node::Node;
 use crate::patterns::{Parameters, Pattern, PatternField};
+use crate::text::Text;
 use crate::types::TypeExpression;
-use mo_num::Bytes;
 
 /// The tree of a program.
 #[derive(Drop)]
@@ -23,7 +23,7 @@ pub struct Import {
     pub name: Name,
     /// Whether `=` stands behind the name.
     pub equal_sign: bool,
-    pub path: Node<Bytes>,
+    pub path: Text,
 }
 
 /// `actor x { .. }`. The name may be missing.

@@ -6,8 +6,9 @@ use crate::before::Before;
 use crate::mark::Mark;
 use crate::name::Name;
 use crate::place::Place;
+use crate::text::Text;
 use crate::word::Word;
-use mo_num::{Bytes, Sequence};
+use mo_num::Sequence;
 
 /// What a token is and what it carries. A literal is its value, so the many spellings of one number or text are one kind.
 #[derive(Drop)]
@@ -20,8 +21,8 @@ pub enum TokenKind {
     Number(u64),
     /// A character, as its Unicode scalar value.
     Character(u32),
-    /// A text, as its bytes. They are UTF-8 unless an escape of one byte made them otherwise.
-    Text(Bytes),
+    /// A text, as the bytes that it stands for.
+    Text(Text),
     /// An operator or mark.
     Mark(Mark),
 }
@@ -37,7 +38,7 @@ pub struct Token {
 /// A list of tokens.
 pub type Tokens = Sequence<Token>;
 
-/// A list of tokens without their places, but for those of names.
+/// A list of tokens without their places, but for those of names and texts.
 pub type Kinds = Sequence<TokenKind>;
 
 impl TokenKind {
@@ -58,13 +59,17 @@ impl TokenKind {
         }
     }
 
-    /// The kind of a token that stands there: a name has its place.
+    /// The kind of a token that stands there: a name or text has its place.
     pub fn placed(self, place: Place) -> TokenKind
         ensures { result ≡ placed place self }
     {
         match self {
             TokenKind::Identifier(name) => TokenKind::Identifier(Name {
                 bytes: name.bytes,
+                place,
+            }),
+            TokenKind::Text(text) => TokenKind::Text(Text {
+                bytes: text.bytes,
                 place,
             }),
             kind => kind,

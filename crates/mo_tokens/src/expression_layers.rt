@@ -15,28 +15,28 @@ use crate::operators::{put_assignment, put_operator};
 use crate::part::Part;
 use crate::type_writing::{put_annotation, put_type, put_type_arguments};
 use crate::writer::Writer;
-use mo_num::{Bytes, Memory};
+use mo_num::Memory;
 use mo_syntax::{
     AssignmentOperator, BinaryOperator, Declaration, Expression, ExpressionField, Items, Kinds,
-    Mark, Name, Node, TokenKind, TypeExpression, Word,
+    Mark, Name, Node, Text, TokenKind, TypeExpression, Word,
 };
 use std::alloc::Global;
 
 // `actor "id"`
-fn put_actor_reference(alloc: Global, text: &Bytes, out: &mut Kinds) -> Result<(), Memory>
+fn put_actor_reference(alloc: Global, text: &Text, out: &mut Kinds) -> Result<(), Memory>
     ensures { OnOk result (out.new ≡ out.old ++ TokenKind.Reserved Word.Actor ∷ TokenKind.Text text.now ∷ []) }
 {
     put_word(out, Word::Actor)?;
-    put_text(alloc, out, text.as_slice())
+    put_text(alloc, out, text)
 }
 
 // `actor ("id")`
-fn put_actor_in_parens(alloc: Global, text: &Bytes, out: &mut Kinds) -> Result<(), Memory>
+fn put_actor_in_parens(alloc: Global, text: &Text, out: &mut Kinds) -> Result<(), Memory>
     ensures { OnOk result (out.new ≡ out.old ++ TokenKind.Reserved Word.Actor ∷ parens (TokenKind.Text text.now ∷ [])) }
 {
     put_word(out, Word::Actor)?;
     put_mark(out, Mark::ParenOpen)?;
-    put_text(alloc, out, text.as_slice())?;
+    put_text(alloc, out, text)?;
     put_mark(out, Mark::ParenClose)
 }
 

@@ -4,8 +4,8 @@ ghost use Rattle.mo_syntax.specs.Writing.{literal_token, marked, tag};
 ghost use Rattle.mo_syntax.specs.declared.token.TokenKind.{TokenKind};
 ghost use Rattle.mo_syntax.specs.declared.mark.Mark.{Mark};
 
-use mo_num::{Bytes, Memory};
-use mo_syntax::{Kinds, Literal, Mark, Name, TokenKind, Word};
+use mo_num::Memory;
+use mo_syntax::{Kinds, Literal, Mark, Name, Text, TokenKind, Word};
 use std::alloc::Global;
 
 pub(crate) fn put_mark(out: &mut Kinds, mark: Mark) -> Result<(), Memory>
@@ -26,10 +26,10 @@ pub(crate) fn put_name(alloc: Global, out: &mut Kinds, name: &Name) -> Result<()
     out.push(TokenKind::Identifier(name.copy(alloc)?))
 }
 
-pub(crate) fn put_text(alloc: Global, out: &mut Kinds, text: &[u8]) -> Result<(), Memory>
+pub(crate) fn put_text(alloc: Global, out: &mut Kinds, text: &Text) -> Result<(), Memory>
     ensures { OnOk result (out.new ≡ out.old ++ TokenKind.Text text.now ∷ []) }
 {
-    out.push(TokenKind::Text(Bytes::from_slice(alloc, text)?))
+    out.push(TokenKind::Text(text.copy(alloc)?))
 }
 
 /// The mark, where it stands.
@@ -52,7 +52,7 @@ pub(crate) fn put_literal(alloc: Global, literal: &Literal, out: &mut Kinds) -> 
     match literal {
         Literal::Number(n) => out.push(TokenKind::Number(*n)),
         Literal::Character(c) => out.push(TokenKind::Character(*c)),
-        Literal::Text(bytes) => put_text(alloc, out, bytes.as_slice()),
+        Literal::Text(text) => put_text(alloc, out, text),
         Literal::True => put_word(out, Word::True),
         Literal::False => put_word(out, Word::False),
         Literal::Null => put_word(out, Word::Null),

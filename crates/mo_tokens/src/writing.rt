@@ -17,7 +17,7 @@ use crate::type_writing::{put_annotation, put_type};
 use mo_num::Memory;
 use mo_syntax::{
     Actor, ActorField, Context, Import, Kinds, Mark, Name, Node, SharedFunction, SharedPrefix,
-    SharedSort, Tree, Word,
+    SharedSort, Text, Tree, Word,
 };
 use std::alloc::Global;
 
@@ -54,11 +54,11 @@ fn put_import(alloc: Global, import: &Import, out: &mut Kinds) -> Result<(), Mem
     put_word(out, Word::Import)?;
     put_name(alloc, out, &import.name)?;
     put_mark_if(out, import.equal_sign, Mark::EqualSign)?;
-    put_path(alloc, import.path.get().as_slice(), out)
+    put_path(alloc, &import.path, out)
 }
 
 // A text and a `;`.
-fn put_path(alloc: Global, path: &[u8], out: &mut Kinds) -> Result<(), Memory>
+fn put_path(alloc: Global, path: &Text, out: &mut Kinds) -> Result<(), Memory>
     ensures { OnOk result (out.new ≡ out.old ++ TokenKind.Text path.now ∷ TokenKind.Mark Mark.Semicolon ∷ []) }
 {
     put_text(alloc, out, path)?;

@@ -52,13 +52,13 @@ kinds_append (blank b ∷ ps) qs = kinds_append ps qs
 kinds_append (comment text ∷ ps) qs = kinds_append ps qs
 kinds_append (token kind text ∷ ps) qs = ap (λ l. kind ∷ l) (kinds_append ps qs)
 
--- a name that is placed anew is the same but for its place
+-- a name or text that is placed anew is the same but for its place
 plain_placed : (place : Place) (kind : TokenKind) → plain (placed place kind) ≡ plain kind
 plain_placed place (t.Identifier name) = refl
 plain_placed place (t.Reserved word) = refl
 plain_placed place (t.Number n) = refl
 plain_placed place (t.Character c) = refl
-plain_placed place (t.Text bytes) = refl
+plain_placed place (t.Text value) = refl
 plain_placed place (t.Mark mark) = refl
 
 pub kinds_listed : (place : ℕ) (ps : List Piece) → map (λ (x : Token). plain x.kind) (tokens_from place ps) ≡ map plain (kinds_of ps)
@@ -95,7 +95,7 @@ leaves (t.Identifier name) = refl
 leaves (t.Reserved word) = leaves_word word
 leaves (t.Number n) = refl
 leaves (t.Character c) = refl
-leaves (t.Text bytes) = refl
+leaves (t.Text value) = refl
 leaves (t.Mark mark) = leaves_mark mark
 
 abbrev pub LeadsAfter : Last → List TokenKind → Type 0
@@ -122,10 +122,10 @@ leads (t.Identifier name) kinds h = tt
 leads (t.Reserved word) kinds h = leads_word word kinds
 leads (t.Number n) kinds h = tt
 leads (t.Character c) kinds h = tt
-leads (t.Text bytes) kinds h = tt
+leads (t.Text value) kinds h = tt
 leads (t.Mark mark) kinds h = leads_mark mark kinds h
 
--- the token's piece, whose name stands nowhere, and what is in front of it
+-- the token's piece, whose name or text stands nowhere, and what is in front of it
 abbrev next : Last → Bool → TokenKind → List ℕ → List Piece
 next l angle kind text = gap l angle ++ token (plain kind) text ∷ []
 

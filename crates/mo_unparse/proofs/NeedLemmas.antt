@@ -55,7 +55,7 @@ of_language before (t.Identifier name) text rest h = ap (λ n. is_identifier n.b
 of_language before (t.Character c) text rest h = character_scalar text c h
 of_language before (t.Reserved word) text rest h = tt
 of_language before (t.Number n) text rest h = tt
-of_language before (t.Text bytes) text rest h = tt
+of_language before (t.Text value) text rest h = tt
 of_language before (t.Mark mark) text rest h = tt
 
 is_kind : (p : Piece) (ps : List Piece) (name : Name) (text : List ℕ) → found p ≡ found (token (t.Identifier name) text) → LeadsIdentifier (kinds_of (p ∷ ps))
@@ -97,14 +97,14 @@ able before (token kind text ∷ ps) h =
     let rest = able (before_of kind) ps h.1 in
     ((of_language before kind text (text_of ps ++ []) h.0, rest.0), (goes_on before kind text ps h.0 h.1, rest.1))
 
--- ---- what tokens have to be does not depend on where names stand
+-- ---- what tokens have to be does not depend on where names and texts stand
 
 language_plain : (kind : TokenKind) → IsOfLanguage (plain kind) ≡ IsOfLanguage kind
 language_plain (t.Identifier name) = refl
 language_plain (t.Reserved word) = refl
 language_plain (t.Number n) = refl
 language_plain (t.Character c) = refl
-language_plain (t.Text bytes) = refl
+language_plain (t.Text value) = refl
 language_plain (t.Mark mark) = refl
 
 leads_plain : (kinds : List TokenKind) → LeadsIdentifier (map plain kinds) ≡ LeadsIdentifier kinds
@@ -113,7 +113,7 @@ leads_plain (t.Identifier name ∷ kinds) = refl
 leads_plain (t.Reserved word ∷ kinds) = refl
 leads_plain (t.Number n ∷ kinds) = refl
 leads_plain (t.Character c ∷ kinds) = refl
-leads_plain (t.Text bytes ∷ kinds) = refl
+leads_plain (t.Text value ∷ kinds) = refl
 leads_plain (t.Mark mark ∷ kinds) = refl
 
 mark_plain : (mark : Mark) (kinds : List TokenKind) → MarkGoesOn mark (map plain kinds) ≡ MarkGoesOn mark kinds
@@ -125,7 +125,7 @@ goes_plain (t.Identifier name) kinds = refl
 goes_plain (t.Reserved word) kinds = refl
 goes_plain (t.Number n) kinds = refl
 goes_plain (t.Character c) kinds = refl
-goes_plain (t.Text bytes) kinds = refl
+goes_plain (t.Text value) kinds = refl
 goes_plain (t.Mark mark) kinds = mark_plain mark kinds
 
 each_plain : (kinds : List TokenKind) → Each IsOfLanguage (map plain kinds) ≡ Each IsOfLanguage kinds

@@ -1,6 +1,7 @@
 -- In the writing of an expression or declaration each mark `#` of a tag has its identifier behind it.
-use Rattle.std.proofs.Common.{ℕ, Bool, true, false, List, [], ◌∷◌, ◌++◌, Option, Some, None, sym, subst, map, option_map}
+use Rattle.std.proofs.Common.{Bool, true, false, List, [], ◌∷◌, ◌++◌, Option, Some, None, sym, subst, map, option_map}
 use Rattle.mo_syntax.specs.declared.name.Name.{Name}
+use Rattle.mo_syntax.specs.declared.text.Text.{Text}
 use Rattle.mo_syntax.specs.declared.word.Word.TheVariants as w
 use Rattle.mo_syntax.specs.declared.mark.Mark.TheVariants as m
 use Rattle.mo_syntax.specs.declared.token.TokenKind.TheVariants as t
@@ -74,7 +75,7 @@ of_visibility (Some visible.Private) = (one (t.Reserved w.Private) [] tt none)
 of_names : (names : Option (List Name)) → EachWithin Closed (option_map (map (λ (y : Name). t.Identifier y ∷ [])) names)
 of_names names = each_within_mapped (λ y. t.Identifier y ∷ []) names (each_within_of (λ y. Closed (t.Identifier y ∷ [])) (λ y. one (t.Identifier y) [] tt none) names)
 
-of_reference : (b : Bool) (text : List ℕ) → Closed (expression_tokens (e.ActorReference b text))
+of_reference : (b : Bool) (text : Text) → Closed (expression_tokens (e.ActorReference b text))
 of_reference false text = subst Closed (sym (eq.tokens_ActorReference false text)) (one (t.Reserved w.Actor) (t.Text text ∷ []) tt (one (t.Text text) [] tt none))
 of_reference true text = subst Closed (sym (eq.tokens_ActorReference true text)) (one (t.Reserved w.Actor) (parens (t.Text text ∷ [])) tt (in_parens (t.Text text ∷ []) (one (t.Text text) [] tt none)))
 

@@ -89,7 +89,7 @@ in_angles (Some xs) c = framed (t.Mark m.AngleOpen) (t.Mark m.AngleClose) (comma
 pub a_literal : (literal : Literal) → Closed (literal_token literal ∷ [])
 a_literal (lit.Number n) = one (t.Number n) [] tt none
 a_literal (lit.Character c) = one (t.Character c) [] tt none
-a_literal (lit.Text bytes) = one (t.Text bytes) [] tt none
+a_literal (lit.Text text) = one (t.Text text) [] tt none
 a_literal lit.True = one (literal_token lit.True) [] tt none
 a_literal lit.False = one (literal_token lit.False) [] tt none
 a_literal lit.Null = one (literal_token lit.Null) [] tt none

@@ -84,7 +84,7 @@ token_stands before (t.Identifier name) text rest is e s h = (ap (λ l. record {
 token_stands before (t.Reserved word) text rest is e s h = (ap word_of e ∙ word_is word, ap is_name e ∙ word_is_name word, word_ends word rest h)
 token_stands before (t.Number n) text rest is e s h = (inl (decimal n text rest e.numeral h), e.fits)
 token_stands before (t.Character c) text rest is e s h = character_is c text is e
-token_stands before (t.Text bytes) text rest is e s h = text_is text bytes e.fit e.whole
+token_stands before (t.Text value) text rest is e s h = (refl, text_is text value.bytes e.fit e.whole)
 token_stands before (t.Mark mark) text rest is e s h =
     let stands = mark_stands before mark rest s h in
     (e, stands.is_longest, ap (λ l. begins_comment (l ++ rest)) e ∙ stands.no_comment, stands.fitting)
@@ -98,7 +98,7 @@ token_low (t.Identifier name) text is e =
 token_low (t.Reserved word) text is e = subst AreLow (sym e) (name_low (word_text word) (word_is_name word))
 token_low (t.Number n) text is e = numeral_low 10 n text (omega arith) e.numeral
 token_low (t.Character c) text is e = character_low c text e
-token_low (t.Text bytes) text is e = text_low text bytes e.fit e.whole
+token_low (t.Text value) text is e = text_low text value.bytes e.fit e.whole
 token_low (t.Mark mark) text is e = subst AreLow (sym e) (mark_low mark)
   where
     mark_low : (mark : Mark) → AreLow (mark_text mark)

@@ -33,7 +33,7 @@ last_of (t.Identifier name) = last.Operand
 last_of (t.Reserved word) = last_of_word word
 last_of (t.Number n) = last.Operand
 last_of (t.Character c) = last.Operand
-last_of (t.Text bytes) = last.Operand
+last_of (t.Text value) = last.Operand
 last_of (t.Mark mark) = last_of_mark mark
 
 abbrev pub is_angle_mark : Mark → Bool
@@ -108,7 +108,7 @@ IsSpelling (t.Identifier name) text = text ≡ name.bytes
 IsSpelling (t.Reserved word) text = text ≡ word_text word
 IsSpelling (t.Number n) text = NumberText n text
 IsSpelling (t.Character c) text = CharacterText c text
-IsSpelling (t.Text bytes) text = TextText bytes text
+IsSpelling (t.Text value) text = TextText value.bytes text
 IsSpelling (t.Mark mark) text = text ≡ mark_text mark
 
 pub record Adds (kind : TokenKind) (old new : List ℕ) : Type 0 where

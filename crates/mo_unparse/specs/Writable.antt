@@ -41,7 +41,7 @@ AreTagged (kind ∷ kinds) = GoesOn kind kinds × AreTagged kinds
 abbrev pub AreWritable : List TokenKind → Type 0
 AreWritable kinds = Each IsOfLanguage kinds × AreTagged kinds
 
--- the text is made of tokens of these kinds, wherever their names stand
+-- the text is made of tokens of these kinds, wherever their names and texts stand
 pub record LexesTo (text : List ℕ) (kinds : List TokenKind) : Type 0 where
   pub tokens : List Token
   pub lexed : Lexed text tokens

@@ -12,8 +12,8 @@ use mo_tokens::tokens;
 use std::alloc::Global;
 
 /// A text of the tree's own tokens. Where each name is an identifier and each character a Unicode scalar value, by the
-/// Motoko language manual (lexical structure), the text is read as these tokens, with each name's place in this text.
-/// Nothing is said of other trees.
+/// Motoko language manual (lexical structure), the text is read as these tokens, with the places of names and texts
+/// in this text. Nothing is said of other trees.
 pub fn unparse(alloc: Global, tree: &Tree) -> Result<Bytes, Memory>
     ensures written { IfOk result (λ text. Each IsOfLanguage (tree_tokens tree.now) → LexesTo text (tree_tokens tree.now)) }
 
@@ -25,8 +25,8 @@ pub fn unparse(alloc: Global, tree: &Tree) -> Result<Bytes, Memory>
 }
 
 /// A text of the tokens. Where each name is an identifier, each character a Unicode scalar value and each mark `#` of a tag
-/// has its identifier behind it, the text is read as these tokens, with each name's place in this text. Nothing is said of
-/// other lists.
+/// has its identifier behind it, the text is read as these tokens, with the places of names and texts in this text. Nothing
+/// is said of other lists.
 pub fn spell(alloc: Global, kinds: &[TokenKind]) -> Result<Bytes, Memory>
     ensures written { IfOk result (λ text. AreWritable kinds.now → LexesTo text kinds.now) }
 

@@ -24,7 +24,7 @@ fn put_token(out: &mut Bytes, kind: &TokenKind) -> Result<(), Memory>
         TokenKind::Reserved(word) => out.extend(word.text()),
         TokenKind::Number(value) => put_number(out, *value),
         TokenKind::Character(value) => put_character(out, *value),
-        TokenKind::Text(bytes) => put_text(out, bytes.as_slice()),
+        TokenKind::Text(text) => put_text(out, text.as_slice()),
         TokenKind::Mark(mark) => out.extend(mark.text()),
     }
 }

@@ -1,4 +1,4 @@
-use Rattle.mo_lexer.proofs.Laws.{gives_these, refuses_this, in_order, are_named}
+use Rattle.mo_lexer.proofs.Laws.{gives_these, refuses_this, in_order, are_placed}
 use Rattle.mo_lexer.proofs.lexer.lex.Goals as goal
 
 pub returns-clause-only_tokens : goal.returns-clause-only_tokens
@@ -10,5 +10,5 @@ returns-clause-only_fault c = λ fault faults. refuses_this c.args.source.now c.
 pub returns-clause-ordered : goal.returns-clause-ordered
 returns-clause-ordered c = in_order c.args.source.now c.answer.result c.answer.ensures.found
 
-pub returns-clause-named : goal.returns-clause-named
-returns-clause-named c = are_named c.args.source.now c.answer.result c.answer.ensures.found
+pub returns-clause-placed : goal.returns-clause-placed
+returns-clause-placed c = are_placed c.args.source.now c.answer.result c.answer.ensures.found

@@ -3,4 +3,4 @@ use Rattle.mo_scopes.specs.Scopes.{library_of}
 use Rattle.mo_names.proofs.program.ProgramWalk.libraries_of.Given as goal
 
 abbrev pub invariant-loop-one : goal.invariant-loop-one
-invariant-loop-one l = map (λ x. library_of x.path) l.imports ≡ l.libraries ++ map (λ x. library_of x.path) (drop l.one-index l.imports)
+invariant-loop-one l = map (λ x. library_of x.path.bytes) l.imports ≡ l.libraries ++ map (λ x. library_of x.path.bytes) (drop l.one-index l.imports)
