@@ -16,7 +16,7 @@ pub(crate) fn tokens_of(alloc: Global, source: &[u8]) -> Result<Read<Tokens>, St
     }
 }
 
-/// The tokens of a source without their places, but for those of names.
+/// The tokens of a source without their places, but for those of names and texts.
 pub(crate) fn kinds_of(alloc: Global, source: &[u8]) -> Result<Read<Kinds>, Stop> {
     let tokens = match tokens_of(alloc, source)? {
         Ok(tokens) => tokens,
