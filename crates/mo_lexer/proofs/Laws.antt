@@ -173,7 +173,7 @@ token_some before (t.Number n) text rest (inl (numeral, v, e, p), small) = numer
 token_some before (t.Number n) text rest (inr (digits, e, numeral, v, g), small) = omega (arith, ap length e)
 token_some before (t.Character c) text rest (inl (e, sc, q, s, n)) = omega (arith, ap length e)
 token_some before (t.Character c) text rest (inr (escape, e, good)) = omega (arith, ap length e)
-token_some before (t.Text value) text rest (at, items, e, v, good) = omega (arith, ap length e)
+token_some before (t.Text value) text rest (at, (items, e, v, good)) = omega (arith, ap length e)
 token_some before (t.Mark mark) text rest (e, longest, plain_, fits) = subst (λ l. 0 < length l) (sym e) (mark_some mark)
 
 pieces_in_order : (first place : ℕ) (before : Before) (pieces : List Piece) (rest : List ℕ) → first ≤ place → AllStand before pieces rest → AreInOrder first (place + length (text_of pieces)) (tokens_from place pieces)

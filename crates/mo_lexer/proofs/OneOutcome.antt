@@ -449,7 +449,7 @@ token_view before place (t.Character c) text rest (inl (is, scalar, q, s, n)) =
 token_view before place (t.Character c) text rest (inr (more, is, good)) =
     let whole : text ++ rest ≡ 39 ∷ (92 ∷ more) ++ 39 ∷ rest = ap (λ l. l ++ rest) is ∙ ap (λ l. 39 ∷ 92 ∷ l) (append_assoc more (39 ∷ []) rest) in
     inr (inr (inr (record { inner = 92 ∷ more; c = c; tail = 39 ∷ rest; whole = whole; one = inr (more, refl, good); is = ap (λ l. found (token (t.Character c) l)) is })))
-token_view before place (t.Text value) text rest (at, items, is, bytes, good) =
+token_view before place (t.Text value) text rest (at, (items, is, bytes, good)) =
     let whole : text ++ rest ≡ 34 ∷ flat_map item_text items ++ 34 ∷ rest = ap (λ l. l ++ rest) is ∙ ap (λ l. 34 ∷ l) (append_assoc (flat_map item_text items) (34 ∷ []) rest) in
     let same : t.Text value ≡ text_kind (flat_map item_bytes items) = ap (λ p. t.Text (record { bytes = value.bytes; place = p })) at ∙ ap text_kind bytes in
     inr (inl (record { items = items; rest = 34 ∷ rest; opens = (whole, good); stop = stops_quote rest; is = ap (λ l. found (token (t.Text value) l)) is ∙ ap (λ k. found (token k (34 ∷ flat_map item_text items ++ 34 ∷ []))) same }))
