@@ -49,6 +49,10 @@ fn answer(alloc: Global, command: &str, arguments: &[Bytes]) -> Result<String, S
         answer => return answer,
     }
     match types_probe::answer(alloc, command, arguments) {
+        Err(Stop::Usage) => {}
+        answer => return answer,
+    }
+    match fault_probe::answer(alloc, command, arguments) {
         Err(Stop::Usage) => modules_probe::answer(alloc, command, arguments),
         answer => answer,
     }
