@@ -35,15 +35,15 @@ pub judged_module : (bytes : List ℕ) (tree : Module) (r : Result Module JudgeF
 judged_module bytes tree (Ok m) w e j = subst (IsModule bytes) (sym j.0) (record { short = is_short bytes tree e; written = w; valid = j.1 })
 judged_module bytes tree (Err fault) w e j = tt
 
-pub judged_fault : (bytes : List ℕ) (tree : Module) (r : Result Module JudgeFault) → Written tree bytes → ((m : Module) → length bytes ≤ file_limit → Written m bytes → Answers (Ok tree) (Ok m)) → Judged tree r
+pub judged_fault : (bytes : List ℕ) (tree : Module) (r : Result Module JudgeFault) → Written tree bytes → module_at bytes ≡ Ok tree → ((m : Module) → length bytes ≤ file_limit → Written m bytes → Answers (Ok tree) (Ok m)) → Judged tree r
     → IfErr r (IsJudged bytes)
-judged_fault bytes tree (Ok m) w one j = tt
-judged_fault bytes tree (Err (Bad (Read fault))) w one j = absurd j
-judged_fault bytes tree (Err (Bad (Valid rule))) w one j = record {
-  none = λ m h. let e : Ok m ≡ Ok tree = one m h.short h.written in let same : m ≡ tree = cc in j.0 (subst ValidModule same h.valid);
-  named = (tree, w, j.1, j.2);
+judged_fault bytes tree (Ok m) w e one j = tt
+judged_fault bytes tree (Err (Bad (Read fault))) w e one j = absurd j
+judged_fault bytes tree (Err (Bad (Valid rule))) w e one j = record {
+  none = λ m h. let both : Ok m ≡ Ok tree = one m h.short h.written in let same : m ≡ tree = cc in j.0 (subst ValidModule same h.valid);
+  named = (is_short bytes tree e, tree, w, j.1, j.2);
 }
-judged_fault bytes tree (Err Memory) w one j = tt
+judged_fault bytes tree (Err Memory) w e one j = tt
 
 -- What cannot be read is no module.
 pub unread_judged : (bytes : List ℕ) (fault : ReadFault) → Answers (Err fault) (module_at bytes) → ((m : Module) → length bytes ≤ file_limit → Written m bytes → Answers (Err fault) (Ok m))

@@ -21,10 +21,11 @@ pub record IsModule (bytes : List ℕ) (m : Module) : Type 0 where
   pub written : Written m bytes
   pub valid : ValidModule m
 
--- What the fault says of the bytes: the first field that breaks its rule, or a rule that the module breaks.
+-- What the fault says of the bytes: the first field that breaks its rule, or a rule that the module breaks. Of more bytes
+-- than a module may have it says that, and no more.
 abbrev pub IsNamed : List ℕ → ModuleFault → Type 0
 IsNamed bytes (Read fault) = (fault ≡ read.Memory → ⊥) × Answers (Err fault) (module_at bytes)
-IsNamed bytes (Valid rule) = (m : Module) × Written m bytes × (function : Option ℕ) × Fails m function rule
+IsNamed bytes (Valid rule) = (length bytes ≤ file_limit) × (m : Module) × Written m bytes × (function : Option ℕ) × Fails m function rule
 
 -- The bytes are no valid module, for this fault.
 pub record IsBadModule (bytes : List ℕ) (fault : ModuleFault) : Type 0 where
