@@ -49,13 +49,13 @@ ends_told words old new status told e (inl same) = subst (λ s. Ends words old n
 ends_told words old new status told e (inr memory) = subst (λ s. Ends words old new s) (sym memory.1) (ends_memory words old new status e memory.0)
 
 -- A name holds one list of bytes.
-one_held : (held : NameMap) (name : List ℕ) (P Q : List ℕ → Type 0) → HasBytes held name P → HasBytes held name Q → (bytes : List ℕ) × P bytes × Q bytes
+pub one_held : (held : NameMap) (name : List ℕ) (P Q : List ℕ → Type 0) → HasBytes held name P → HasBytes held name Q → (bytes : List ℕ) × P bytes × Q bytes
 one_held held name P Q p q = let e : Some q.0 ≡ Some p.0 = sym q.1 ∙ p.1 in let same : q.0 ≡ p.0 = cc in (p.0, p.2, subst Q same q.2)
 
-there_is : (held : NameMap) (name : List ℕ) (P : List ℕ → Type 0) → HasBytes held name P → held name ≡ None → ⊥
+pub there_is : (held : NameMap) (name : List ℕ) (P : List ℕ → Type 0) → HasBytes held name P → held name ≡ None → ⊥
 there_is held name P p none = let e : Some p.0 ≡ None = sym p.1 ∙ none in absurd (cc)
 
-good_at : (P : List ℕ → Type 0) (files : List (List ℕ)) (k : ℕ) (f : List ℕ) → AllByRecursion P files → slice_get files k ≡ Some f → P f
+pub good_at : (P : List ℕ → Type 0) (files : List (List ℕ)) (k : ℕ) (f : List ℕ) → AllByRecursion P files → slice_get files k ≡ Some f → P f
 good_at P [] zero f h e = absurd (cc)
 good_at P [] (suc k) f h e = absurd (cc)
 good_at P (x ∷ xs) zero f h e = let same : x ≡ f = cc in subst P same h.0
@@ -81,7 +81,7 @@ all_taken (Reply n a ∷ es) b g = absurd b
 all_taken (Reject n c t ∷ es) b g = absurd b
 all_taken (Upgrade number ∷ es) b g = absurd b
 
-no_later : (count line : ℕ) (events : List Event) (text : List ℕ) → IsScript Sources count events text → IsNotYet count line text → ⊥
+pub no_later : (count line : ℕ) (events : List Event) (text : List ℕ) → IsScript Sources count events text → IsNotYet count line text → ⊥
 no_later count line events text s n =
     n.later (spelled_in IsTaken (lines_of text) events n.place n.line n.event s.script.good.spelled n.there n.spelled (all_taken events s.script.good.begun s.admitted))
 
@@ -172,7 +172,7 @@ told_done words old new held status told (inr (inr (inl e))) (inr (inr a)) r w p
 told_done words old new held status told (inr (inr (inr e))) a r w p = absurd (no_form words held e.is a)
 
 -- What the source of a build asks for else.
-built_accepted : (held : NameMap) (new : Option NameMap) (src out : List ℕ) → Built (Some held) new src out → HasBytes held src IsAccepted
+pub built_accepted : (held : NameMap) (new : Option NameMap) (src out : List ℕ) → Built (Some held) new src out → HasBytes held src IsAccepted
 built_accepted held None src out b = absurd b
 built_accepted held (Some new) src out b = (b.0, b.2, (b.4.methods, b.4.spelled))
 

@@ -64,7 +64,7 @@ pub long_script : (text : List ℕ) (count : ℕ) → script_limit < length text
 long_script text count long = record { none = λ es s. let short = s.short in absurd (omega arith); named = long; cause = λ e. absurd (cc) }
 
 -- The first line whose event is not taken.
-get_take : {X : Type 0} (xs : List X) (n k : ℕ) (x : X) → k < n → slice_get xs k ≡ Some x → slice_get (take n xs) k ≡ Some x
+pub get_take : {X : Type 0} (xs : List X) (n k : ℕ) (x : X) → k < n → slice_get xs k ≡ Some x → slice_get (take n xs) k ≡ Some x
 get_take [] zero k x lt e = absurd (omega arith)
 get_take [] (suc n) k x lt e = e
 get_take (y ∷ ys) zero k x lt e = absurd (omega arith)

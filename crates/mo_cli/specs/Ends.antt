@@ -90,7 +90,7 @@ pub record NoCase (words : List (List ℕ)) (old new : Outside) (status : Status
   pub same : new ≡ old
   pub status_is : (status ≡ Usage) ⊎ (status ≡ NoMemory)
 
--- What makes the words end so.
+-- What makes the words end so. The cases exclude each other: the law is stated in OneStatus.
 abbrev pub Ends : List (List ℕ) → Outside → Outside → Status → Type 0
 Ends words old new status = BuildCase words old new status ⊎ PlayCase words old new status ⊎ RunCase words old new status ⊎ NoCase words old new status
 

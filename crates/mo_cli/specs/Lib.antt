@@ -5,3 +5,4 @@ pub mod Ends
 pub mod Lines
 pub mod Codes
 pub mod Stopped
+pub mod OneStatus

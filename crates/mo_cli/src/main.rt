@@ -3,6 +3,7 @@
 
 mod compile;
 mod help;
+mod laws;
 mod line;
 mod replay;
 mod run;

@@ -1,4 +1,5 @@
 //! The top call over files and sinks of which a call fails, and the statuses.
+use crate::compile::CompileFault;
 use crate::run::run_mo;
 use crate::status::Status;
 use mo_num::{Bytes, Sequence};
@@ -9,6 +10,10 @@ use std::collections::BTreeMap;
 use std::test::Fail;
 
 const EMPTY_MODULE: &[u8] = b"\0asm\x01\0\0\0";
+
+/// The first 66 bytes of the 133 that `actor {}` is built to, which `cases/program/built.json` has whole.
+const HALF_A_MODULE: &[u8] =
+    b"\0asm\x01\0\0\0\x01\t\x02`\x02\x7f\x7f\0`\0\0\x02-\x02\x03ic0\x15msg_reply_data_append\0\0\x03ic0\tmsg_reply\0\x01";
 
 fn words(alloc: Global, text: &str) -> Result<Vec<String>, Fail> {
     let mut words = Vec::new(alloc);
@@ -61,6 +66,7 @@ fn each_fault_has_its_status(rt: HostRuntime) -> Result<(), Fail> {
     let none: &[u64] = &[];
     let first: &[u64] = &[0];
     let second: &[u64] = &[1];
+    let third: &[u64] = &[2];
     for (text, failing, put, line, code) in [
         (
             "play s a",
@@ -91,6 +97,13 @@ fn each_fault_has_its_status(rt: HostRuntime) -> Result<(), Fail> {
             4,
         ),
         (
+            "play s a",
+            (none, third, none),
+            b"installed\nrejected 0 5 6e6f206d6574686f64\nigno".as_slice(),
+            b"write fault\n".as_slice(),
+            4,
+        ),
+        (
             "play s",
             (none, none, first),
             b"".as_slice(),
@@ -116,13 +129,53 @@ fn each_fault_has_its_status(rt: HostRuntime) -> Result<(), Fail> {
             ends(
                 rt.alloc(),
                 text,
-                (b"install 0\ncall x 04 -\n".as_slice(), EMPTY_MODULE),
+                (
+                    b"install 0\ncall x 04 -\nreply 7 -\n".as_slice(),
+                    EMPTY_MODULE
+                ),
                 failing,
                 (put, line)
             )?,
             (code, true, true),
             "{text}"
         );
+    }
+    Ok(())
+}
+
+#[test]
+fn a_failing_write_tears_out_alone(rt: HostRuntime) -> Result<(), Fail> {
+    let alloc = rt.alloc();
+    let words = words(alloc, "build a b")?;
+    let names = held(alloc, b"kept", b"actor {}")?;
+    let mut files = MemFiles::new(alloc, names, places(alloc, &[1])?);
+    let mut out = MemSink::new(alloc, places(alloc, &[])?);
+    let mut err = MemSink::new(alloc, places(alloc, &[])?);
+    let status = run_mo(alloc, words.as_slice(), &mut files, &mut out, &mut err);
+    assert_eq!(rt; status, Status::WriteFault);
+    for (name, bytes) in [
+        ("b", Some(HALF_A_MODULE)),
+        ("a", Some(b"actor {}".as_slice())),
+        ("s", Some(b"kept".as_slice())),
+        ("c", None),
+    ] {
+        assert_eq!(rt; files.get(name), bytes, "{name}");
+    }
+    assert_eq!(rt; out.bytes(), b"".as_slice());
+    assert_eq!(rt; err.bytes(), b"write fault\n".as_slice());
+    Ok(())
+}
+
+#[test]
+fn sources_without_a_module_say_why(rt: HostRuntime) -> Result<(), Fail> {
+    for (fault, message) in [
+        (
+            CompileFault::NotYet,
+            "the source is not of the form that is compiled yet",
+        ),
+        (CompileFault::Memory, "there was no memory"),
+    ] {
+        assert_eq!(rt; format!(in rt.alloc(); "{fault}")?.as_str(), message);
     }
     Ok(())
 }
