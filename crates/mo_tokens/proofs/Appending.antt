@@ -1,15 +1,28 @@
--- Writing one thing after another.
-use Rattle.std.proofs.Common.{◌≡◌, List, ◌++◌, Result, Ok, Err, ap, ◌∙◌, append_assoc}
-use Rattle.std.specs.Prelude.{OnOk}
-use Rattle.mo_num.specs.declared.memory.Memory.{Memory}
+-- Loops that write one thing after another.
+use Rattle.std.proofs.Common.{◌≡◌, ℕ, ◌+◌, ◌<◌, ◌≤◌, List, [], ◌∷◌, ◌++◌, length, get_or, drop, map, ap, sym, ◌∙◌, append_assoc, append-nil}
+use Rattle.std.specs.List.{flat_map}
+use Rattle.std.proofs.lemmas.List.{drop_more, at_drop_all}
+use Rattle.mo_syntax.specs.declared.token.TokenKind.{TokenKind}
+use Rattle.mo_syntax.specs.Writing.{Writing, separated}
 
-pub on_ok : {P Q : Type 0} (r : Result (Unit {0}) Memory) → OnOk r P → (P → Q) → OnOk r Q
-on_ok (Ok x) p f = f p
-on_ok (Err e) p f = tt
+-- what follows the first item: each of these behind a token
+abbrev pub others : {B : Type 0} → TokenKind → (B → Writing) → List B → Writing
+others token f xs = flat_map (λ y. token ∷ y) (map f xs)
 
-pub chain : {A : Type 0} (x y z a b : List A) → y ≡ x ++ a → z ≡ y ++ b → z ≡ x ++ (a ++ b)
-chain x y z a b p q = q ∙ ap (λ w. w ++ b) p ∙ append_assoc x a b
+-- one turn: the token and the item at i
+pub one_more : {B : Type 0} (token : TokenKind) (f : B → Writing) (xs : List B) (i : ℕ) (x : B) (whole old mid new : Writing)
+    → i < length xs → x ≡ get_or xs i x → mid ≡ old ++ token ∷ [] → new ≡ mid ++ f x
+    → whole ≡ old ++ others token f (drop i xs) → whole ≡ new ++ others token f (drop (i + 1) xs)
+one_more token f xs i x whole old mid new h e m n p =
+    let rest = others token f (drop (i + 1) xs) in
+    p ∙ ap (λ r. old ++ others token f r) (drop_more xs i x h ∙ ap (λ y. y ∷ drop (i + 1) xs) (sym e))
+    ∙ sym (ap (λ w. w ++ rest) (n ∙ ap (λ w. w ++ f x) m) ∙ append_assoc (old ++ token ∷ []) (f x) rest ∙ append_assoc old (token ∷ []) (f x ++ rest))
 
-pub written_as : {A : Type 0} (r : Result (Unit {0}) Memory) (new old x y : List A) → x ≡ y → OnOk r (new ≡ old ++ x) → OnOk r (new ≡ old ++ y)
-written_as (Ok u) new old x y e p = p ∙ ap (λ z. old ++ z) e
-written_as (Err m) new old x y e p = tt
+-- the end: the first item and each of the others
+pub all_written : {B : Type 0} (token : TokenKind) (f : B → Writing) (items : List B) (x : B) (i : ℕ) (old first new : Writing)
+    → 1 ≤ length items → x ≡ get_or items 0 x → length (drop 1 items) ≤ i → first ≡ old ++ f x
+    → first ++ others token f (drop 1 items) ≡ new ++ others token f (drop i (drop 1 items)) → new ≡ old ++ separated token (map f items)
+all_written token f items x i old first new long e h a p =
+    let rest = others token f (drop 1 items) in
+    sym (ap (λ ys. old ++ separated token (map f ys)) (drop_more items 0 x long ∙ ap (λ y. y ∷ drop 1 items) (sym e)) ∙ sym (append_assoc old (f x) rest) ∙ ap (λ w. w ++ rest) (sym a) ∙ p
+    ∙ ap (λ w. new ++ w) (at_drop_all (others token f) (drop 1 items) i h) ∙ append-nil new)

@@ -1,0 +1,5 @@
+use Rattle.std.proofs.Common.{append_assoc}
+use Rattle.mo_tokens.proofs.type_layers.TypeWriter.put_array.Goals as goal
+
+pub returns : goal.returns
+returns g c = simp append_assoc (simp (c.in_ok-put_mark.ensures, c.in_ok-put_word_if.ensures, c.in_ok-put.ensures, append_assoc) at c.put_mark-2.ensures)

@@ -1,0 +1,5 @@
+use Rattle.std.proofs.Common.{append_assoc}
+use Rattle.mo_tokens.proofs.writer.Writer.put_object_block.Goals as goal
+
+pub returns : goal.returns
+returns g c = simp append_assoc (simp (c.in_ok-put_word.ensures, append_assoc) at c.put_members.ensures)

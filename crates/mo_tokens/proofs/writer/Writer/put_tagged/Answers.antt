@@ -1,0 +1,5 @@
+use Rattle.std.proofs.Common.{append_assoc}
+use Rattle.mo_tokens.proofs.writer.Writer.put_tagged.Goals as goal
+
+pub returns : goal.returns
+returns g c = simp (c.in_ok-put_tag.ensures, append_assoc) at c.put_optional.ensures

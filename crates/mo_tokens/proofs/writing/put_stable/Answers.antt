@@ -1,0 +1,5 @@
+use Rattle.std.proofs.Common.{append_assoc}
+use Rattle.mo_tokens.proofs.writing.put_stable.Goals as goal
+
+pub returns : goal.returns
+returns c = simp (c.in_ok-put_word.ensures, c.in_ok-put_word-2.ensures, append_assoc) at c.put_name.ensures
