@@ -15,7 +15,7 @@ use Rattle.mo_cli.specs.declared.status.Input.TheVariants.{Modules, Sources}
 use Rattle.mo_cli.specs.Built.{IsAccepted}
 use Rattle.mo_cli.specs.Held.{HasBytes, FirstFile}
 use Rattle.mo_cli.specs.Replays.{IsGood, IsScript, IsBadScript, IsNotYet, HasScript}
-use Rattle.mo_cli.specs.Ends.{Ends, BuildCase, PlayCase, RunCase, NoCase}
+use Rattle.mo_cli.specs.Ends.{Ends, BuildCase, PlayCase, RunCase}
 use Rattle.mo_cli.specs.OneStatus.{EndsUnfailed, AreAlike, HasOneStatus}
 use Rattle.mo_cli.proofs.Asked.{one_held, there_is, good_at, no_later}
 use Rattle.mo_cli.proofs.Texts.{get_take}
