@@ -1,4 +1,3 @@
-use Rattle.std.proofs.Common.{append_assoc}
 use Rattle.mo_tokens.proofs.leaves.put_end.Goals as goal
 
 pub returns : goal.returns
