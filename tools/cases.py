@@ -14,11 +14,14 @@ and a case an object of
   err      what is wanted on the error stream; left out: anything
   status   the exit status that is wanted (0 if left out)
   makes    contents that files must have afterwards, by name; null: there is no such file
+  each     [first, last]: the case stands for one of each number from the first to the last. In its texts `{n}` is the
+           number, and a count may be [a, b] for a times the number and b
 
 Contents are a text, or an object of one of
   hex      bytes in hexadecimal digits
   parts    a list of contents, one behind another
   repeat   [contents, count]
+  numbers  [first, count]: numbers from the first on, one a line
   module   a WebAssembly module (see modules.py beside this)
 """
 import argparse
@@ -48,7 +51,34 @@ def contents(it):
     if "repeat" in it:
         part, count = it["repeat"]
         return contents(part) * count
+    if "numbers" in it:
+        first, count = it["numbers"]
+        return b"".join(b"%d\n" % number for number in range(first, first + count))
     return modules.assemble(it["module"])
+
+
+def at(it, number):
+    """Returns a part of a case that stands for one of each number, at this number."""
+    if isinstance(it, str):
+        return it.replace("{n}", str(number))
+    if isinstance(it, list):
+        return [at(part, number) for part in it]
+    if not isinstance(it, dict):
+        return it
+    made = {key: at(part, number) for key, part in it.items()}
+    for key in ("repeat", "numbers"):
+        if key in made and isinstance(made[key][1], list):
+            times, more = made[key][1]
+            made[key][1] = times * number + more
+    return made
+
+
+def cases_for(case):
+    """Returns the cases that a case stands for."""
+    if "each" not in case:
+        return [case]
+    first, last = case["each"]
+    return [at(case, number) for number in range(first, last + 1)]
 
 
 def found_in(folder, name):
@@ -91,7 +121,8 @@ def cases_of(file):
     table = json.loads(file.read_text("utf-8"))
     program = TOP / "crates" / PROGRAMS[table["program"]] / "out" / PROGRAMS[table["program"]]
     area = f"{file.parent.name}/{file.stem}"
-    return [(f"{area}: {case['name']}", case, case.get("words", table.get("words", [])), program) for case in table["cases"]]
+    every = [case for it in table["cases"] for case in cases_for(it)]
+    return [(f"{area}: {case['name']}", case, case.get("words", table.get("words", [])), program) for case in every]
 
 
 def main():
