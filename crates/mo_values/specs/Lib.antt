@@ -1,0 +1,15 @@
+pub mod Shapes
+pub mod Recoding
+pub mod Parts
+pub mod Messages
+pub mod Equality
+pub mod Numbers
+pub mod Views
+pub mod Operations
+pub mod Costs
+pub mod Rows
+pub mod NumberRows
+pub mod TextRows
+pub mod EqualityRows
+pub mod PartRows
+pub mod CostRows

@@ -1,0 +1,16 @@
+//! Values, and what operations make of them, for all languages of the compiler. It holds the definitions; each function
+//! does nothing, and its contract is a theorem about them.
+#![tactic(auto)]
+
+mod error_code;
+mod laws;
+mod operation;
+mod rows;
+
+pub use error_code::ErrorCode;
+pub use laws::{costs_see_no_function, operations_see_no_function};
+pub use operation::{Comparison, Operation, Scalar, Wrapping};
+pub use rows::{
+    costs_are_as_wanted, equality_is_as_wanted, numbers_are_as_wanted, parts_are_as_wanted,
+    texts_are_as_wanted,
+};
