@@ -1,2 +1,4 @@
 pub mod Natural
 pub mod SameCosts
+pub mod Wrapped
+pub mod Recoded

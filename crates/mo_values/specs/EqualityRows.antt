@@ -1,4 +1,4 @@
--- Equality at a type: Motoko language manual, section "Equality". Of two object types the greatest has the fields of both.
+-- Equality at a type: Motoko language manual, section "Relational operators". Of two object types the greatest has the fields of both.
 use Rattle.std.specs.Prelude.{ℕ, List, [], ◌∷◌, codes}
 use Rattle.mo_types.specs.declared.datum.Datum.TheVariants as part
 use Rattle.mo_types.specs.declared.node.TypeId.{TypeId}

@@ -11,5 +11,6 @@ pub mod Rows
 pub mod NumberRows
 pub mod TextRows
 pub mod EqualityRows
+pub mod MessageRows
 pub mod PartRows
 pub mod CostRows

@@ -1,4 +1,4 @@
--- Arithmetic that wraps, and the order of scalars: Motoko language manual, sections "Bitwise binary operators" and
+-- Arithmetic that wraps, and the order of scalars: Motoko language manual, sections "Binary operators" and
 -- "Relational operators".
 use Rattle.std.specs.Prelude.{Bool, true, false, not, Option, Some, None, ℤ, pos, ◌+ℤ◌, ◌-ℤ◌, ◌*ℤ◌, int_lt, nat_lt}
 use Rattle.std.specs.Int.{int_rem_euclid}

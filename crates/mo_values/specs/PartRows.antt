@@ -1,5 +1,5 @@
--- Values with parts, actors and errors: Motoko language manual, sections "Tuples", "Options", "Variants", "Objects",
--- "Arrays", "Actors"; base library, `Error` and `Principal`.
+-- Values with parts, actors and errors: Motoko language manual, sections "Tuples", "Projections", "Indexing"; base
+-- library, `Error` and `Principal`.
 use Rattle.std.specs.Prelude.{ℕ, List, [], ◌∷◌, codes}
 use Rattle.mo_types.specs.declared.datum.Datum.TheVariants as part
 use Rattle.mo_values.specs.declared.error_code.ErrorCode.{ErrorCode}

@@ -142,6 +142,10 @@ shared_function = type 17
 abbrev pub counter : TypeId
 counter = type 18
 
+-- `{name : Text; age : Nat}`
+abbrev pub person : TypeId
+person = type 19
+
 abbrev pub field : Bytes → TypeId → Field TypeId
 field l t = record { label = l; mutable = false; part = t }
 
@@ -166,6 +170,7 @@ nodes =
     ∷ node.Principal
     ∷ node.Func sort.Shared [] []
     ∷ node.Object (record { label = codes "x"; mutable = true; part = nat_type } ∷ [])
+    ∷ node.Object (field (codes "name") text_type ∷ field (codes "age") nat_type ∷ [])
     ∷ []
 
 abbrev pub nth : List (Node TypeId) → ℕ → Node TypeId

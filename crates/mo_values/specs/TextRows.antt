@@ -1,5 +1,5 @@
--- Texts, characters and truth values: Motoko language manual, sections "Relational operators", "Text concatenation",
--- "Assertions"; base library, `Debug` and `Text`.
+-- Texts, characters and truth values: Motoko language manual, sections "Relational operators", "Binary operators",
+-- "Assert"; base library, `Debug` and `Text`.
 use Rattle.std.specs.Prelude.{ℕ, List, [], ◌∷◌, ◌++◌, Bool, true, false, codes}
 use Rattle.mo_types.specs.declared.datum.Datum.TheVariants as part
 use Rattle.mo_values.specs.declared.operation.Comparison.{Comparison}

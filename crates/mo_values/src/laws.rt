@@ -1,11 +1,14 @@
-//! Laws of the table: no operation looks into a function value.
-ghost use Rattle.std.specs.Prelude.{◌≡◌, List};
+//! Laws of the table: no operation looks into a function value, and wrapping is that of arithmetic.
+ghost use Rattle.std.specs.Prelude.{◌≡◌, List, ℤ};
+ghost use Rattle.mo_num.specs.declared.kind.Kind.{Kind};
+ghost use Rattle.mo_num.specs.Arith.{IsWrapped};
 ghost use Rattle.mo_types.specs.declared.node.Node.{Node};
 ghost use Rattle.mo_types.specs.declared.node.TypeId.{TypeId};
 ghost use Rattle.mo_values.specs.declared.operation.Operation.{Operation};
 ghost use Rattle.mo_values.specs.Costs.{operation_cost};
+ghost use Rattle.mo_values.specs.Numbers.{wrapped};
 ghost use Rattle.mo_values.specs.Operations.{operate};
-ghost use Rattle.mo_values.specs.Recoding.{recode_answer, recodes};
+ghost use Rattle.mo_values.specs.Recoding.{recode, recode_answer, recodes};
 ghost use Rattle.mo_values.specs.Shapes.{Shape};
 ghost use Rattle.mo_values.specs.Views.{Answer};
 
@@ -17,4 +20,15 @@ pub fn operations_see_no_function<F, G>()
 /// And it costs the same.
 pub fn costs_see_no_function<F, G>()
     ensures { (code : F → G) (o : Operation) (vs : List (Shape F)) (answer : Answer F) → operation_cost o (recodes code vs) (recode_answer code answer) ≡ operation_cost o vs answer }
+{}
+
+/// With the same functions a value is the same, and two recodings in turn are one.
+pub fn recodings_compose<F, G, H>()
+    ensures same { (v : Shape F) → recode (λ f. f) v ≡ v }
+    ensures twice { (first : F → G) (second : G → H) (v : Shape F) → recode second (recode first v) ≡ recode (λ f. second (first f)) v }
+{}
+
+/// What a number wraps to is a value of the kind that differs from it by whole turns of the kind's width.
+pub fn wrapping_goes_by_whole_turns()
+    ensures { (kind : Kind) (n : ℤ) → IsWrapped kind n (wrapped kind n) }
 {}

@@ -8,9 +8,12 @@ mod operation;
 mod rows;
 
 pub use error_code::ErrorCode;
-pub use laws::{costs_see_no_function, operations_see_no_function};
+pub use laws::{
+    costs_see_no_function, operations_see_no_function, recodings_compose,
+    wrapping_goes_by_whole_turns,
+};
 pub use operation::{Comparison, Operation, Scalar, Wrapping};
 pub use rows::{
-    costs_are_as_wanted, equality_is_as_wanted, numbers_are_as_wanted, parts_are_as_wanted,
-    texts_are_as_wanted,
+    costs_are_as_wanted, equality_is_as_wanted, messages_are_as_wanted, numbers_are_as_wanted,
+    parts_are_as_wanted, texts_are_as_wanted,
 };

@@ -26,7 +26,7 @@ pub enum Scalar {
     Blob,
 }
 
-/// An operator that wraps around: Motoko language manual, section "Bitwise binary operators".
+/// An operator that wraps around: Motoko language manual, section "Binary operators".
 #[derive(Clone, Copy, Debug, PartialEq, Eq)]
 pub enum Wrapping {
     /// `+%`

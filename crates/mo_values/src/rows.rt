@@ -2,6 +2,7 @@
 ghost use Rattle.std.specs.Prelude.{◌≡◌};
 ghost use Rattle.mo_values.specs.CostRows.{cost_rows, wanted_costs};
 ghost use Rattle.mo_values.specs.EqualityRows.{equalities, no_equalities};
+ghost use Rattle.mo_values.specs.MessageRows.{read, sent, wanted_read, wanted_sent};
 ghost use Rattle.mo_values.specs.NumberRows.{digits, limits, orders, powers, quotients, strangers, turns};
 ghost use Rattle.mo_values.specs.PartRows.{made_parts, outside, taken_parts};
 ghost use Rattle.mo_values.specs.Rows.{answers, costs, wanted};
@@ -29,6 +30,12 @@ pub fn texts_are_as_wanted()
 pub fn equality_is_as_wanted()
     ensures equalities { answers equalities ≡ wanted equalities }
     ensures stuck { answers no_equalities ≡ wanted no_equalities }
+{}
+
+/// What goes into a message of a type, and what is made of it there.
+pub fn messages_are_as_wanted()
+    ensures sent { sent ≡ wanted_sent }
+    ensures read { read ≡ wanted_read }
 {}
 
 /// Tuples, objects, arrays, actors and errors.

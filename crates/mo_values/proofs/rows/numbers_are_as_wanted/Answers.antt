@@ -1,4 +1,5 @@
 use Rattle.std.proofs.Common.{refl}
+use Rattle.std.specs.Fmt.{digits}
 use Rattle.mo_values.proofs.rows.numbers_are_as_wanted.Goals as goal
 
 pub returns-clause-quotients : goal.returns-clause-quotients
@@ -20,4 +21,5 @@ pub returns-clause-strangers : goal.returns-clause-strangers
 returns-clause-strangers c = refl
 
 pub returns-clause-digits : goal.returns-clause-digits
+unfolding digits
 returns-clause-digits c = refl
