@@ -2,3 +2,4 @@ pub mod Natural
 pub mod SameCosts
 pub mod Wrapped
 pub mod Recoded
+pub mod Alike

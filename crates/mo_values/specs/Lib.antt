@@ -1,5 +1,6 @@
 pub mod Shapes
 pub mod Recoding
+pub mod Alike
 pub mod Parts
 pub mod Messages
 pub mod Equality

@@ -1,10 +1,11 @@
 //! Laws of the table: no operation looks into a function value, and wrapping is that of arithmetic.
-ghost use Rattle.std.specs.Prelude.{◌≡◌, List, ℤ};
+ghost use Rattle.std.specs.Prelude.{◌≡◌, Bool, true, List, ℤ};
 ghost use Rattle.mo_num.specs.declared.kind.Kind.{Kind};
 ghost use Rattle.mo_num.specs.Arith.{IsWrapped};
 ghost use Rattle.mo_types.specs.declared.node.Node.{Node};
 ghost use Rattle.mo_types.specs.declared.node.TypeId.{TypeId};
 ghost use Rattle.mo_values.specs.declared.operation.Operation.{Operation};
+ghost use Rattle.mo_values.specs.Alike.{AlikeAnswers, AlikeEach};
 ghost use Rattle.mo_values.specs.Costs.{operation_cost};
 ghost use Rattle.mo_values.specs.Numbers.{wrapped};
 ghost use Rattle.mo_values.specs.Operations.{operate};
@@ -20,6 +21,13 @@ pub fn operations_see_no_function<F, G>()
 /// And it costs the same.
 pub fn costs_see_no_function<F, G>()
     ensures { (code : F → G) (o : Operation) (vs : List (Shape F)) (answer : Answer F) → operation_cost o (recodes code vs) (recode_answer code answer) ≡ operation_cost o vs answer }
+{}
+
+/// So where a relation ties the functions of two languages, operands that are alike by it have answers that are alike by it,
+/// at the same cost: a pass from one language to the other needs no lemma of a single operation.
+pub fn alike_operands_have_alike_answers<F, G>()
+    ensures answers { (head : TypeId → Node TypeId) (related : F → G → Bool) (o : Operation) (vs : List (Shape F)) (ws : List (Shape G)) → AlikeEach (λ f g. related f g ≡ true) vs ws → AlikeAnswers (λ f g. related f g ≡ true) (operate head o vs) (operate head o ws) }
+    ensures costs { (head : TypeId → Node TypeId) (related : F → G → Bool) (o : Operation) (vs : List (Shape F)) (ws : List (Shape G)) → AlikeEach (λ f g. related f g ≡ true) vs ws → operation_cost o vs (operate head o vs) ≡ operation_cost o ws (operate head o ws) }
 {}
 
 /// With the same functions a value is the same, and two recodings in turn are one.
