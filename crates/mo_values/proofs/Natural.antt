@@ -1,13 +1,11 @@
 -- Operations see no function: with other functions in the operands the answer is the same, with these functions.
 use Rattle.std.proofs.Common.{◌≡◌, ℕ, zero, suc, Bool, true, false, List, [], ◌∷◌, Option, Some, None, Result, Ok, Err, refl, ap, ◌∙◌}
-use Rattle.std.specs.Prelude.{ℤ, length, slice_get, cond, not, nat_eq}
+use Rattle.std.specs.Prelude.{ℤ, length, slice_get, cond, nat_eq}
 use Rattle.std.specs.Str.{bytes_eq}
 use Rattle.mo_num.specs.declared.kind.Kind.{Kind}
 use Rattle.mo_num.specs.declared.kind.Kind.TheVariants as kind
 use Rattle.mo_num.specs.declared.operator.NumTrap.{NumTrap}
-use Rattle.mo_num.specs.declared.operator.NumTrap.TheVariants as trap
-use Rattle.mo_num.specs.Arith.{Arith, Negation, within}
-use Rattle.mo_types.specs.declared.datum.Datum.{Datum}
+use Rattle.mo_num.specs.Arith.{Arith, Negation}
 use Rattle.mo_types.specs.declared.node.Node.{Node}
 use Rattle.mo_types.specs.declared.node.Node.TheVariants as node
 use Rattle.mo_types.specs.declared.node.TypeId.{TypeId}
@@ -19,11 +17,11 @@ use Rattle.mo_values.specs.declared.operation.Operation.{Operation}
 use Rattle.mo_values.specs.declared.operation.Operation.TheVariants as op
 use Rattle.mo_values.specs.Equality.{equal, same_forms}
 use Rattle.mo_values.specs.Messages.{count, under, only_if, part_at, types_inside, message_of, both, plain, plain_at, plain_each}
-use Rattle.mo_values.specs.Numbers.{has_width, before, compared}
-use Rattle.mo_values.specs.Operations.{operate, number, counted, asserted, in_bounds, flag, code_shape}
+use Rattle.mo_values.specs.Numbers.{has_width, before}
+use Rattle.mo_values.specs.Operations.{operate, number, counted, asserted, in_bounds, code_shape}
 use Rattle.mo_values.specs.Recoding.{recode, recode_all, recodes, recode_answer}
 use Rattle.mo_values.specs.Shapes.{Bytes, Leaf, Present, Tuple, Array, Object, Tag, Error, Cell, Future, Shape, Shapes, Made, Function, NoShape, AShape, listed, shapes}
-use Rattle.mo_values.specs.Views.{Answer, Gives, Traps, Stuck, given, leaf_if, number_in, natural_in, flag_in, text_in, actor_in, scalar_type, leaf_of, scalar_of, number_of, natural_of, flag_of, text_of, actor_of, tuple_of, array_of, field_of, code_of, message_in}
+use Rattle.mo_values.specs.Views.{Answer, Gives, given, leaf_if, number_in, natural_in, flag_in, text_in, actor_in, scalar_type, leaf_of, scalar_of, number_of, natural_of, flag_of, text_of, actor_of, tuple_of, array_of, field_of, code_of, message_in}
 
 module _ {F G : Type 0} (code : F → G) where
   abbrev recode_some : Option (Shape F) → Option (Shape G)

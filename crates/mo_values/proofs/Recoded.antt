@@ -1,5 +1,5 @@
 -- To recode twice is to recode once.
-use Rattle.std.proofs.Common.{◌≡◌, List, [], ◌∷◌, refl, ap, ◌∙◌}
+use Rattle.std.proofs.Common.{◌≡◌, refl, ap, ◌∙◌}
 use Rattle.mo_values.specs.Recoding.{recode, recode_all}
 use Rattle.mo_values.specs.Shapes.{Shape, Shapes, Made, Function, NoShape, AShape}
 

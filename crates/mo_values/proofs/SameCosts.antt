@@ -1,6 +1,6 @@
 -- Operations cost the same with other functions in the operands.
 use Rattle.std.proofs.Common.{◌≡◌, ℕ, List, [], ◌∷◌, refl, ap, ◌∙◌}
-use Rattle.std.specs.Prelude.{◌+◌, max, length}
+use Rattle.std.specs.Prelude.{◌+◌, max}
 use Rattle.mo_values.specs.declared.operation.Operation.{Operation}
 use Rattle.mo_values.specs.declared.operation.Operation.TheVariants as op
 use Rattle.mo_values.specs.Costs.{Cost, weighing, scalar_weight, sizes, most_levels, made, comparing, putting, operation_cost}

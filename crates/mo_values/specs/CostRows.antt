@@ -1,5 +1,5 @@
 -- Costs of some rows: the weight, and the levels that are compared.
-use Rattle.std.specs.Prelude.{ℕ, List, [], ◌∷◌, codes}
+use Rattle.std.specs.Prelude.{List, [], ◌∷◌, codes}
 use Rattle.mo_num.specs.declared.kind.Kind.TheVariants as kind
 use Rattle.mo_num.specs.declared.operator.Operator.TheVariants as operator
 use Rattle.mo_values.specs.declared.operation.Comparison.TheVariants as comparison
@@ -7,8 +7,8 @@ use Rattle.mo_values.specs.declared.operation.Operation.TheVariants as op
 use Rattle.mo_values.specs.declared.operation.Scalar.TheVariants as scalar
 use Rattle.mo_values.specs.Costs.{Cost, weighing}
 use Rattle.mo_values.specs.EqualityRows.{at, here}
-use Rattle.mo_values.specs.Rows.{Row, none, one, two, many, nat, text, array, yes, no, place}
-use Rattle.mo_values.specs.Views.{Answer, Gives, Traps}
+use Rattle.mo_values.specs.Rows.{Row, none, one, two, many, nat, text, array, yes, place}
+use Rattle.mo_values.specs.Views.{Gives, Traps}
 
 abbrev pub cost_rows : List Row
 cost_rows =

@@ -4,7 +4,7 @@ use Rattle.mo_types.specs.declared.datum.Datum.TheVariants as part
 use Rattle.mo_types.specs.Values.{Values, Nil, Value}
 use Rattle.mo_values.specs.EqualityRows.{ok, err}
 use Rattle.mo_values.specs.Messages.{plain, opened}
-use Rattle.mo_values.specs.Rows.{heads, nat, text, null, some, tuple, object, point, person, outcome, list, option, nat_type}
+use Rattle.mo_values.specs.Rows.{heads, nat, text, null, some, tuple, object, person, outcome, list, option, nat_type}
 use Rattle.mo_values.specs.Shapes.{Shape, Shapes, Function, shapes}
 
 -- a person's fields, and one more

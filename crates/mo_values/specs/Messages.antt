@@ -1,6 +1,6 @@
 -- Values of shareable types as they go into messages, and back. At an object type only the fields of that type go, and
 -- at Any nothing does.
-use Rattle.std.specs.Prelude.{ℕ, zero, suc, List, [], ◌∷◌, length, map, Bool, true, false, ◌&&◌, cond, Option, Some, None, nat_eq, is_some, slice_get}
+use Rattle.std.specs.Prelude.{ℕ, zero, suc, List, [], ◌∷◌, length, map, Bool, true, false, ◌&&◌, cond, Option, Some, None, nat_eq, is_some}
 use Rattle.std.specs.Str.{bytes_eq}
 use Rattle.mo_types.specs.declared.datum.Datum.{Datum}
 use Rattle.mo_types.specs.declared.datum.Datum.TheVariants as part

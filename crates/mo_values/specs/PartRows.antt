@@ -6,7 +6,7 @@ use Rattle.mo_values.specs.declared.error_code.ErrorCode.{ErrorCode}
 use Rattle.mo_values.specs.declared.error_code.ErrorCode.TheVariants as code
 use Rattle.mo_values.specs.declared.operation.Operation.TheVariants as op
 use Rattle.mo_values.specs.Operations.{tag}
-use Rattle.mo_values.specs.Rows.{Row, none, one, two, many, nat, minus, text, null, some, tuple, array, object, yes, no}
+use Rattle.mo_values.specs.Rows.{Row, none, one, two, many, nat, minus, text, null, some, tuple, array, object}
 use Rattle.mo_values.specs.Shapes.{Bytes, Error, Shape, Made, Function, NoShape, leaf, unit}
 use Rattle.mo_values.specs.Views.{Answer, Gives, Traps, Stuck}
 

@@ -1,6 +1,6 @@
 -- Rows of the table: an operation, its operands, and the answer that they have by the language manual, its base library or
 -- another implementation. The functions in values are numbers here.
-use Rattle.std.specs.Prelude.{ℕ, zero, suc, List, [], ◌∷◌, Bool, true, false, ℤ, pos, neg_ℤ, codes}
+use Rattle.std.specs.Prelude.{ℕ, zero, suc, List, [], ◌∷◌, true, false, ℤ, pos, neg_ℤ, codes}
 use Rattle.mo_num.specs.declared.kind.Kind.TheVariants as kind
 use Rattle.mo_types.specs.declared.datum.Datum.TheVariants as part
 use Rattle.mo_types.specs.declared.node.Field.{Field}
@@ -10,8 +10,8 @@ use Rattle.mo_types.specs.declared.node.Sort.TheVariants as sort
 use Rattle.mo_types.specs.declared.node.TypeId.{TypeId}
 use Rattle.mo_values.specs.declared.operation.Operation.{Operation}
 use Rattle.mo_values.specs.Costs.{Cost, operation_cost}
-use Rattle.mo_values.specs.Operations.{operate, tag}
-use Rattle.mo_values.specs.Shapes.{Bytes, Present, Tuple, Array, Object, Shape, Made, Function, NoShape, AShape, shapes, leaf}
+use Rattle.mo_values.specs.Operations.{operate}
+use Rattle.mo_values.specs.Shapes.{Bytes, Present, Tuple, Array, Object, Shape, Made, NoShape, AShape, shapes, leaf}
 use Rattle.mo_values.specs.Views.{Answer, Gives, Traps}
 
 pub record Row : Type 0 where
