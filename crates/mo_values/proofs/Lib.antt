@@ -3,3 +3,4 @@ pub mod SameCosts
 pub mod Wrapped
 pub mod Recoded
 pub mod Alike
+pub mod Leaves

@@ -2,6 +2,8 @@
 ghost use Rattle.std.specs.Prelude.{◌≡◌, Bool, true, List, ℤ};
 ghost use Rattle.mo_num.specs.declared.kind.Kind.{Kind};
 ghost use Rattle.mo_num.specs.Arith.{IsWrapped};
+ghost use Rattle.mo_types.specs.Values.{IsPartOf};
+ghost use Rattle.mo_types.specs.declared.datum.Datum.{Datum};
 ghost use Rattle.mo_types.specs.declared.node.Node.{Node};
 ghost use Rattle.mo_types.specs.declared.node.TypeId.{TypeId};
 ghost use Rattle.mo_values.specs.declared.operation.Operation.{Operation};
@@ -9,6 +11,7 @@ ghost use Rattle.mo_values.specs.Alike.{AlikeAnswers, AlikeEach};
 ghost use Rattle.mo_values.specs.Costs.{operation_cost};
 ghost use Rattle.mo_values.specs.Numbers.{wrapped};
 ghost use Rattle.mo_values.specs.Operations.{operate};
+ghost use Rattle.mo_values.specs.Parts.{is_leaf_of};
 ghost use Rattle.mo_values.specs.Recoding.{recode, recode_answer, recodes};
 ghost use Rattle.mo_values.specs.Shapes.{Shape};
 ghost use Rattle.mo_values.specs.Views.{Answer};
@@ -39,4 +42,9 @@ pub fn recodings_compose<F, G, H>()
 /// What a number wraps to is a value of the kind that differs from it by whole turns of the kind's width.
 pub fn wrapping_goes_by_whole_turns()
     ensures { (kind : Kind) (n : ℤ) → IsWrapped kind n (wrapped kind n) }
+{}
+
+/// What passes for a value without parts of a type is the outermost part of a value of it.
+pub fn leaves_are_of_their_types()
+    ensures { (t : Node TypeId) (p : Datum) → is_leaf_of t p ≡ true → IsPartOf t p }
 {}

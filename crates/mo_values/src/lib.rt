@@ -9,8 +9,8 @@ mod rows;
 
 pub use error_code::ErrorCode;
 pub use laws::{
-    alike_operands_have_alike_answers, costs_see_no_function, operations_see_no_function,
-    recodings_compose, wrapping_goes_by_whole_turns,
+    alike_operands_have_alike_answers, costs_see_no_function, leaves_are_of_their_types,
+    operations_see_no_function, recodings_compose, wrapping_goes_by_whole_turns,
 };
 pub use operation::{Comparison, Operation, Scalar, Wrapping};
 pub use rows::{
