@@ -12,8 +12,8 @@ use std::alloc::Global;
 use std::env;
 use std::process::ExitCode;
 
-/// The most bytes that a file may hold.
-const MOST_BYTES: u64 = 67_108_864;
+/// The most bytes that a file may hold: one more than a module may have, so that it is `read` that refuses it.
+const MOST_BYTES: u64 = 67_108_865;
 
 // What a word stands for.
 fn argument(alloc: Global, files: &mut impl Files, word: &str) -> Result<Bytes, Stop> {

@@ -9,6 +9,7 @@ mod loading;
 mod memories;
 mod number;
 mod reading;
+mod unwritten;
 mod validity;
 mod writing;
 
@@ -30,6 +31,8 @@ pub fn answer(alloc: Global, command: &str, arguments: &[Bytes]) -> Result<Strin
         [bytes] if command == "write" => writing::write_module(alloc, bytes.as_slice()),
         [bytes] if command == "validate" => validity::validate_module(alloc, bytes.as_slice()),
         [bytes] if command == "layout" => laying::lay_module(alloc, bytes.as_slice()),
+        counts if command == "locals" => unwritten::validate_locals(alloc, counts),
+        [count] if command == "ends" => unwritten::validate_ends(alloc, count.as_slice()),
         [name, operands @ ..] if command == "calculate" => calculation::calculate(
             alloc,
             name.as_slice(),

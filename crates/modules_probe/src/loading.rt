@@ -63,18 +63,19 @@ fn put_memory(alloc: Global, out: &mut String, bytes: &[u8]) -> Result<(), Alloc
     put_run(alloc, out, run)
 }
 
-// A run of equal bytes by its place, its length and the byte.
+// A run of equal bytes by its place, its length and the byte. (A pattern with the 0 in it would be dear to prove.)
 fn put_run(
     alloc: Global,
     out: &mut String,
     run: Option<(usize, usize, u8)>,
 ) -> Result<(), AllocError> {
-    match run {
-        Some((_, _, 0)) | None => Ok(()),
-        Some((place, count, byte)) => {
-            out.push_str(format!(in alloc; "bytes {place} {count} {byte}\n")?.as_str())
-        }
+    let Some((place, count, byte)) = run else {
+        return Ok(());
+    };
+    if byte == 0 {
+        return Ok(());
     }
+    out.push_str(format!(in alloc; "bytes {place} {count} {byte}\n")?.as_str())
 }
 
 fn put_table(alloc: Global, out: &mut String, table: &[Option<u32>]) -> Result<(), AllocError> {
