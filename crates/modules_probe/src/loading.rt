@@ -5,6 +5,7 @@ use mo_num::Bytes;
 use probe_base::Stop;
 use std::alloc::{AllocError, Global};
 use wasm_instance::{Instance, Limits};
+use wasm_valid::Valid;
 
 /// For each module, loaded in turn in place of the one before: the refusal or `loaded`, and then the sizes of memory and
 /// table, each run of equal bytes other than 0 by its place, its length and the byte, each entry that is not empty by its
@@ -34,12 +35,27 @@ fn load_module(
     bytes: &[u8],
 ) -> Result<(), AllocError> {
     match judge(alloc, bytes)? {
-        Judged::Fault(text) => return out.push_str(text.as_str()),
-        Judged::Valid(valid) => match instance.load(&valid) {
-            Ok(()) => out.push_str("loaded\n")?,
-            Err(refusal) => out.push_str(format!(in alloc; "{refusal:?}\n")?.as_str())?,
-        },
+        Judged::Fault(text) => out.push_str(text.as_str()),
+        Judged::Valid(valid) => {
+            load_valid(alloc, out, instance, &valid)?;
+            put_state(alloc, out, instance)
+        }
     }
+}
+
+fn load_valid(
+    alloc: Global,
+    out: &mut String,
+    instance: &mut Instance,
+    valid: &Valid,
+) -> Result<(), AllocError> {
+    match instance.load(valid) {
+        Ok(()) => out.push_str("loaded\n"),
+        Err(refusal) => out.push_str(format!(in alloc; "{refusal:?}\n")?.as_str()),
+    }
+}
+
+fn put_state(alloc: Global, out: &mut String, instance: &Instance) -> Result<(), AllocError> {
     put_memory(alloc, out, instance.memory())?;
     put_table(alloc, out, instance.table())?;
     put_globals(alloc, out, instance.globals())
@@ -63,19 +79,18 @@ fn put_memory(alloc: Global, out: &mut String, bytes: &[u8]) -> Result<(), Alloc
     put_run(alloc, out, run)
 }
 
-// A run of equal bytes by its place, its length and the byte. (A pattern with the 0 in it would be dear to prove.)
+// A run of equal bytes by its place, its length and the byte.
 fn put_run(
     alloc: Global,
     out: &mut String,
     run: Option<(usize, usize, u8)>,
 ) -> Result<(), AllocError> {
-    let Some((place, count, byte)) = run else {
-        return Ok(());
-    };
-    if byte == 0 {
-        return Ok(());
+    match run {
+        Some((_, _, 0)) | None => Ok(()),
+        Some((place, count, byte)) => {
+            out.push_str(format!(in alloc; "bytes {place} {count} {byte}\n")?.as_str())
+        }
     }
-    out.push_str(format!(in alloc; "bytes {place} {count} {byte}\n")?.as_str())
 }
 
 fn put_table(alloc: Global, out: &mut String, table: &[Option<u32>]) -> Result<(), AllocError> {
