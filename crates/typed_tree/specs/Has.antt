@@ -32,6 +32,11 @@ IsCode (error.Future n) = n < 2 ^ 32
 IsCode (error.CallError n) = n < 2 ^ 32
 IsCode _ = Unit {0}
 
+-- A cell is no value of any type, not even of Any: what stands for it is a variable, a `var` field or an element.
+abbrev pub IsNoCell : Head → Type 0
+IsNoCell (Cell at) = ⊥
+IsNoCell _ = Unit {0}
+
 module _ {A : Type 0} where
   -- ---- what is asked of the values inside, by the head of the value and then by the type
 
@@ -89,7 +94,7 @@ module _ {A F : Type 0} (head : A → Node A) (known : Judgements A F) (kinds : 
   RootOf x (Future call) = AtSome (async_of x) (known.AnswerOf call)
 
   abbrev pub Fits : Node A → Head → Shapes F → Type 0
-  Fits node.Any h inside = Unit {0}
+  Fits node.Any h inside = IsNoCell h
   Fits (node.Variable v b) h inside = known.ParameterOf v (Made h inside)
   Fits x h inside = RootOf x h
 

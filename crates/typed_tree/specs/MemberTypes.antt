@@ -31,10 +31,10 @@ module _ {A : Type 0} (head : A → Node A) where
   abbrev pub IsField : List (Field A) → Bytes → A → Type 0
   IsField fs l t = (f : Field A) × (find l fs ≡ Some f) × (f.mutable ≡ false) × (f.part ≡ t)
 
-  -- `{next : () -> ?t}`
+  -- `{next : () -> ?t}`, and no other field
   abbrev pub IsIterator : A → A → Type 0
   IsIterator i t =
-      (fs : List (Field A)) × (next o : A) × (head i ≡ node.Object fs) × IsField fs (codes "next") next × (head next ≡ Function [] o) × (head o ≡ node.Opt t)
+      (f : Field A) × (o : A) × (head i ≡ node.Object (f ∷ [])) × (f.label ≡ codes "next") × (f.mutable ≡ false) × (head f.part ≡ Function [] o) × (head o ≡ node.Opt t)
 
   abbrev pub IsElementOf : A → A → Type 0
   IsElementOf a t = (head a ≡ node.Array t) ⊎ (head a ≡ node.MutArray t)
