@@ -1,0 +1,10 @@
+pub mod Labels
+pub mod Reached
+pub mod Bounds
+pub mod Closed
+pub mod Inversion
+pub mod Renamed
+pub mod Decided
+pub mod Samples
+pub mod Rows
+pub mod Equal
