@@ -1,0 +1,253 @@
+-- Calls of functions, of shared functions and of built-in ones; futures.
+use Rattle.std.proofs.Common.{◌≡◌, inl, inr, ℕ, zero, suc, ◌+◌, List, [], ◌∷◌, ◌++◌, map, Bool, true, false, true≢false, cond, Option, Some, None, refl, sym, ap, ◌∙◌, subst, slice_get, arith}
+use Rattle.mo_types.specs.declared.datum.Datum.TheVariants as part
+use Rattle.mo_types.specs.declared.node.Node.{Node}
+use Rattle.mo_types.specs.declared.node.Node.TheVariants as node
+use Rattle.mo_types.specs.declared.node.Sort.{Sort}
+use Rattle.mo_types.specs.declared.node.Sort.TheVariants as sort
+use Rattle.mo_types.specs.declared.node.TypeId.{TypeId}
+use Rattle.mo_types.specs.Heads.{is_any}
+use Rattle.mo_types.specs.Sub.{AtSome, IsSubtype, Pairwise}
+use Rattle.mo_values.specs.Costs.{weighing}
+use Rattle.mo_values.specs.Shapes.{Head, Leaf, Array, Error, Future, Shape}
+use Rattle.subtype_laws.proofs.Inversion.{to_above}
+use Rattle.subtype_laws.specs.Inversion.{IsAbove}
+use Rattle.typed_tree.specs.declared.action.Member.{Member}
+use Rattle.typed_tree.specs.declared.action.Member.TheVariants as member
+use Rattle.typed_tree.specs.ActionTypes.{ResultOf}
+use Rattle.typed_tree.specs.Language.{Value, Values, Exp, Functions, Made, Function, BuiltIn, NoValue, AValue, NoFunction, AFunction}
+use Rattle.typed_tree.specs.MemberTypes as types
+use Rattle.typed_tree.specs.MemberTypes.{MemberTyped}
+use Rattle.typed_tree.specs.Opening.{Code, Closed, slots_of, shapes_list}
+use Rattle.typed_tree.specs.Patterns.{Pats, NoPat, APat, matches_all}
+use Rattle.typed_tree.specs.Substitution.{Slots, functions, group_of}
+use Rattle.typed_tree.specs.Wants.{Want, Anything, Of, FutureOf, in_function, Below, Serves}
+use Rattle.typed_tree.proofs.Opened.{value_shape}
+use Rattle.mo_meaning.specs.Actions.{call, sent, awaited, given_or}
+use Rattle.mo_meaning.specs.Acts.{Store, Given, Gets, Fails, Act, Goes, Prints, Asks, Awaits, Leaves, Throws, Traps, Stuck}
+use Rattle.mo_meaning.specs.Calls.{are_as_many, entered, entering, call_function}
+use Rattle.mo_meaning.specs.Members.{call_member}
+use Rattle.mo_meaning.specs.Places.{value_list}
+use Rattle.mo_soundness.specs.Keeps.{closed, HasEach, Keeps, Suits}
+use Rattle.mo_soundness.specs.Lawful.{IsLawful}
+use Rattle.mo_soundness.specs.RunningPatterns.{PatternsTyped}
+use Rattle.mo_soundness.specs.Running.{IsErrorValue, Around, AnswerTypes, Callable, Fits, NameStands, HasValue, HaveValues, Typed, FunctionsTyped, FunctionOf, StoreTyped}
+use Rattle.mo_soundness.proofs.Cells.{gives}
+use Rattle.mo_soundness.proofs.Found.{At, opened, HasNames, Matched, all_typed}
+use Rattle.mo_soundness.proofs.Less.{has_sub, typed_sub}
+use Rattle.mo_soundness.proofs.More.{longer_self}
+use Rattle.mo_soundness.proofs.Put.{Covers, covers_function, put_typed}
+use Rattle.mo_soundness.proofs.Wanted.{reflexive}
+
+-- a built-in function is a local one
+pub member_type : (m : Member) (head : TypeId → Node TypeId) (ws : List (Want TypeId)) (n : Node TypeId) → MemberTyped head m ws n → (ps : List TypeId) × (r : TypeId) × (n ≡ types.Function ps r)
+member_type member.DebugPrint head ws n h = (_, h.3.0, h.3.1)
+member_type member.DebugTrap head ws n h = (_, h.3.0, h.3.1)
+member_type member.ErrorReject head ws n h = (_, h.3.0, h.3.1)
+member_type member.ErrorMessage head ws n h = (_, h.3.0, h.3.1)
+member_type member.ErrorCode head ws n h = (_, h.3.0, h.3.1)
+member_type member.NatToText head ws n h = (_, h.3.0, h.3.1)
+member_type member.IntToText head ws n h = (_, h.3.0, h.3.1)
+member_type member.ArrayTabulate head ws n h = (_, h.6.0, h.6.1)
+member_type member.ArrayInit head ws n h = (_, h.4.0, h.4.1)
+member_type member.ArrayFreeze head ws n h = (_, h.4.0, h.4.1)
+member_type member.ArrayThaw head ws n h = (_, h.4.0, h.4.1)
+member_type member.PrincipalFromActor head ws n h = (_, h.3.0, h.3.1)
+member_type member.ArraySize head ws n h = (_, h.4.0, h.4.1)
+member_type member.ArrayVals head ws n h = (_, h.4.0, h.4.1)
+member_type member.ArrayKeys head ws n h = (_, h.6.0, h.6.1)
+member_type member.TextSize head ws n h = (_, h.3.0, h.3.1)
+member_type member.TextChars head ws n h = (_, h.5.0, h.5.1)
+member_type member.NextVal head ws n h = (_, h.6.0, h.6.1)
+member_type member.NextKey head ws n h = (_, h.6.0, h.6.1)
+member_type member.NextChar head ws n h = (_, h.7.0, h.7.1)
+
+module _ (head : TypeId → Node TypeId) (lawful : IsLawful head) (answers : AnswerTypes) (kinds : List TypeId) where
+  abbrev Has : Want TypeId → Value → Type 0
+  Has = HasValue head answers kinds
+
+  abbrev Each : List (Want TypeId) → List Value → Type 0
+  Each = HasEach head answers kinds
+
+  abbrev Holds : Store → Type 0
+  Holds store = StoreTyped head answers kinds store kinds
+
+  -- built-in functions, called with values of their types
+  abbrev pub MembersKeep : Type 0
+  MembersKeep =
+      (ls : List TypeId) (store : Store) (m : Member) (ws : List (Want TypeId)) (f r : TypeId) (ps : List TypeId) (holds : Values) (vs : List Value) → StoreTyped head answers kinds store kinds → MemberTyped head m ws (head f) → HaveValues head answers kinds ws holds
+      → head f ≡ types.Function ps r → HasEach head answers kinds (map (λ t. Of t) ps) vs → Keeps head answers kinds ls (Of r) (call_member store m (value_list holds) vs)
+
+  -- ---- functions below functions
+
+  record FunctionBelow (ps : List TypeId) (r : TypeId) (qs : List TypeId) (s : TypeId) : Type 0 where
+    parameters : Pairwise (IsSubtype head) qs ps
+    result : IsSubtype head r s
+
+  func_below : (f g : TypeId) (ps qs : List TypeId) (r s : TypeId) → IsSubtype head f g → head f ≡ types.Function ps r → head g ≡ types.Function qs s → FunctionBelow ps r qs s
+  func_below f g ps qs r s b p q = by (subst (λ y. IsAbove (IsSubtype head) g (types.Function ps r) y) q (subst (λ x. IsAbove (IsSubtype head) g x (head g)) p (to_above head f g b)))
+    where
+      by : IsAbove (IsSubtype head) g (types.Function ps r) (types.Function qs s) → FunctionBelow ps r qs s
+      by (inl e) = absurd (true≢false (sym (ap is_any e)))
+      by (inr h) =
+          let e : types.Function qs s ≡ node.Func sort.Local h.0 h.1 = h.2 in
+          let first : h.0 ≡ qs = cc in
+          let second : h.1 ≡ s ∷ [] = cc in
+          record { parameters = subst (λ x. Pairwise (IsSubtype head) x ps) first h.3; result = (subst (λ x. Pairwise (IsSubtype head) (r ∷ []) x) second h.4).0 }
+
+  -- ---- the functions of a group
+
+  function_fits : (group : Functions) (all : List (Want TypeId)) (n : ℕ) (how : Sort) (ps : List TypeId) (r : TypeId) (w : Want TypeId) → FunctionsTyped head answers kinds (record { names = all; labels = [] }) group all → slice_get all n ≡ Some w → NameStands head answers how ps r w → Has w (Function group n)
+  function_fits group all n how ps r w f q (inl e) = subst (λ w. Has w (Function group n)) (sym e) tt
+  function_fits group all n how ps r w f q (inr o) =
+      subst (λ w. Has w (Function group n)) (sym o.2)
+      (subst (λ x. Callable x (FunctionOf head answers kinds (Closed group n) o.0)) (sym o.1) (all, o.0, f, subst (λ w. slice_get all n ≡ Some w) o.2 q, reflexive head lawful o.0))
+
+  pub covers_group : (group : Functions) (all : List (Want TypeId)) → FunctionsTyped head answers kinds (record { names = all; labels = [] }) group all
+      → (c : Around) (rest : Functions) (ws : List (Want TypeId)) (n : ℕ) → FunctionsTyped head answers kinds c rest ws → ((m : ℕ) → slice_get ws m ≡ slice_get all (m + n)) → Covers head answers lawful kinds (functions group rest n) ws []
+  covers_group group all f c NoFunction [] n h i = refl
+  covers_group group all f c NoFunction (w ∷ ws) n h i = absurd h
+  covers_group group all f c (AFunction how m ps body fns) [] n h i = absurd h
+  covers_group group all f c (AFunction how m ps body fns) (w ∷ ws) n h i = (
+    refl,
+    function_fits group all n how h.0.0 h.0.1 w f (ap (slice_get all) (omega arith) ∙ sym (i 0)) h.0.3,
+    covers_group group all f c fns ws (suc n) h.1 (λ k. i (suc k) ∙ ap (slice_get all) (omega arith)),
+  )
+
+  -- ---- arguments
+
+  args_sub : (ps qs : List TypeId) (vs : List Value) → Pairwise (IsSubtype head) ps qs → Each (map (λ t. Of t) ps) vs → Each (map (λ t. Of t) qs) vs
+  args_sub [] [] vs p h = h
+  args_sub [] (q ∷ qs) vs p h = absurd p
+  args_sub (t ∷ ps) [] vs p h = absurd p
+  args_sub (t ∷ ps) (q ∷ qs) [] p h = absurd h
+  args_sub (t ∷ ps) (q ∷ qs) (v ∷ vs) p h = (has_sub head lawful answers kinds v (Of t) (Of q) h.0 p.0, args_sub ps qs vs p.1 h.1)
+
+  names_of : (ws : List (Want TypeId)) (vs : List Value) → Each ws vs → HasNames head answers kinds ws (shapes_list vs)
+  names_of [] [] h = tt
+  names_of [] (v ∷ vs) h = absurd h
+  names_of (w ∷ ws) [] h = absurd h
+  names_of (w ∷ ws) (v ∷ vs) h = (subst (Has w) (sym (value_shape v)) h.0, names_of ws vs h.1)
+
+  as_many : (ps : Pats) (ts : List TypeId) (ns : List (Want TypeId)) (vs : List Value) → PatternsTyped head ps ts ns → Each (map (λ t. Of t) ts) vs → are_as_many ps vs ≡ true
+  as_many NoPat [] ns [] p h = refl
+  as_many NoPat [] ns (v ∷ vs) p h = absurd h
+  as_many NoPat (t ∷ ts) ns vs p h = absurd p
+  as_many (APat q ps) [] ns vs p h = absurd p
+  as_many (APat q ps) (t ∷ ts) ns [] p h = absurd h
+  as_many (APat q ps) (t ∷ ts) ns (v ∷ vs) p h = as_many ps ts p.1 vs p.4 h.1
+
+  covers_both : (ns ws : List (Want TypeId)) (us : List (Shape Code)) (s : Slots) → HasNames head answers kinds ns us → Covers head answers lawful kinds s ws [] → Covers head answers lawful kinds (slots_of us ++ s) (ns ++ ws) []
+  covers_both [] ws [] s h c = c
+  covers_both [] ws (u ∷ us) s h c = absurd h
+  covers_both (n ∷ ns) ws [] s h c = absurd h
+  covers_both (n ∷ ns) ws (u ∷ us) s h c = (refl, h.0, covers_both ns ws us s h.1 c)
+
+  entered_keeps : (ls : List TypeId) (store : Store) (group : Functions) (ws : List (Want TypeId)) (weight nodes : ℕ) (body : Exp) (r s : TypeId) (ns : List (Want TypeId)) → Holds store → FunctionsTyped head answers kinds (record { names = ws; labels = [] }) group ws
+      → Typed head answers kinds (record { names = ns ++ map in_function ws; labels = r ∷ [] }) body (Of r) → IsSubtype head r s → (o : Option (List (Shape Code))) → Matched head answers kinds ns o → Keeps head answers kinds ls (Of s) (entered store group weight nodes body o)
+  entered_keeps ls store group ws weight nodes body r s ns st f h b None m = tt
+  entered_keeps ls store group ws weight nodes body r s ns st f h b (Some us) m =
+      let c = covers_group group ws f (record { names = ws; labels = [] }) group ws 0 f (λ m. ap (slice_get ws) (omega arith)) in (
+        kinds,
+        longer_self kinds,
+        st,
+        (r, put_typed head answers lawful kinds body (slots_of us ++ group_of group) (ns ++ map in_function ws) [] (r ∷ []) (Of r) (covers_both ns (map in_function ws) us (group_of group) m (covers_function head answers lawful kinds (group_of group) ws [] c)) h, b),
+      )
+
+  counted : (P : Act → Type 0) (b : Bool) (x : Act) → b ≡ true → P x → P (cond b x Stuck)
+  counted P true x e p = p
+  counted P false x e p = absurd (true≢false (sym e))
+
+  found_keeps : (ls : List TypeId) (store : Store) (s : TypeId) (group : Functions) (all : List (Want TypeId)) (vs : List Value) (f : TypeId) (qs : List TypeId) → Holds store → FunctionsTyped head answers kinds (record { names = all; labels = [] }) group all
+      → ((ps : List TypeId) (r : TypeId) → head f ≡ types.Function ps r → FunctionBelow ps r qs s) → Each (map (λ t. Of t) qs) vs
+      → (fns : Functions) (ws : List (Want TypeId)) (n : ℕ) → FunctionsTyped head answers kinds (record { names = all; labels = [] }) fns ws → slice_get ws n ≡ Some (Of f) → Keeps head answers kinds ls (Of s) (call_function store group fns n vs)
+  found_keeps ls store s group all vs f qs st g k i NoFunction [] n h q = absurd (let z : None ≡ Some (Of f) = q in cc)
+  found_keeps ls store s group all vs f qs st g k i NoFunction (w ∷ ws) n h q = absurd h
+  found_keeps ls store s group all vs f qs st g k i (AFunction how m ps body fns) [] n h q = absurd h
+  found_keeps ls store s group all vs f qs st g k i (AFunction how m ps body fns) (w ∷ ws) zero h q = by h.0.3
+    where
+      same : w ≡ Of f
+      same = cc
+
+      by : NameStands head answers how h.0.0 h.0.1 w → Keeps head answers kinds ls (Of s) (call_function store group (AFunction how m ps body fns) zero vs)
+      by (inl e) = absurd (let z : Anything ≡ Of f = sym e ∙ same in cc)
+      by (inr o) =
+          let is : o.0 ≡ f = (let z : Of o.0 ≡ Of f = sym o.2 ∙ same in cc) in
+          let b = k h.0.0 h.0.1 (subst (λ x. head x ≡ types.Function h.0.0 h.0.1) is o.1) in
+          let args = args_sub qs h.0.0 vs b.parameters i in
+          counted (λ a. Keeps head answers kinds ls (Of s) a) (are_as_many ps vs) (entered store group (entering m ps (shapes_list vs)) m body (matches_all ps (shapes_list vs))) (as_many ps h.0.0 h.0.2 vs h.0.4 args)
+          (entered_keeps ls store group all (entering m ps (shapes_list vs)) m body h.0.1 s h.0.2 st g h.0.5 b.result (matches_all ps (shapes_list vs))
+          (all_typed head answers kinds lawful ps h.0.0 h.0.2 h.0.4 (shapes_list vs) (names_of (map (λ t. Of t) h.0.0) vs args)))
+  found_keeps ls store s group all vs f qs st g k i (AFunction how m ps body fns) (w ∷ ws) (suc n) h q = found_keeps ls store s group all vs f qs st g k i fns ws n h.1 q
+
+  pub keeps_sub : (ls : List TypeId) (w u : Want TypeId) (a : Act) → Serves head w u → Keeps head answers kinds ls w a → Keeps head answers kinds ls u a
+  keeps_sub ls w u (Goes cost store e) s h = (h.0, h.1, h.2, typed_sub head lawful answers h.0 (closed ls) e w u h.3 s)
+  keeps_sub ls w u (Prints cost text e) s h = (h.0, typed_sub head lawful answers kinds (closed ls) e w u h.1 s)
+  keeps_sub ls w u (Asks r) s h = h
+  keeps_sub ls w u (Awaits n c) s h = h
+  keeps_sub ls w u (Leaves l v) s h = h
+  keeps_sub ls w u (Throws cost v) s h = h
+  keeps_sub ls w u (Traps cost text) s h = h
+  keeps_sub ls w u Stuck s h = h
+
+  no_made : (ps : List TypeId) (r : TypeId) (k : Head) → Fits head answers (types.Function ps r) k → ⊥
+  no_made ps r (Leaf (part.Method p n)) e = e.1.0 refl
+  no_made ps r (Leaf p) e = e.1
+  no_made ps r Array (inl e) = e
+  no_made ps r Array (inr e) = e
+  no_made ps r (Error c m) e = true≢false (sym e.0)
+  no_made ps r k e = e
+
+  module _ (members : MembersKeep) where
+    pub call_keeps : (ls : List TypeId) (store : Store) (f r : TypeId) (ps : List TypeId) (v : Value) (vs : List Value) → Holds store → head f ≡ types.Function ps r → Has (Of f) v → Each (map (λ t. Of t) ps) vs → Keeps head answers kinds ls (Of r) (call store v vs)
+    call_keeps ls store f r ps (Function group which) vs s q h i =
+        let k = opened head answers kinds f (types.Function ps r) (Function group which) q h in
+        found_keeps ls store r group k.0 vs k.1 ps s k.2 (λ qs t e. func_below k.1 f qs ps t r k.4 e q) i group k.0 which k.2 k.3
+    call_keeps ls store f r ps (BuiltIn m holds) vs s q h i =
+        let k = opened head answers kinds f (types.Function ps r) (BuiltIn m holds) q h in
+        let t = member_type m head k.0 (head k.1) k.2 in
+        let b = func_below k.1 f t.0 ps t.1 r k.4 t.2 q in
+        keeps_sub ls (Of t.1) (Of r) (call_member store m (value_list holds) vs) b.result (members ls store m k.0 k.1 t.1 t.0 holds vs s k.2 k.3 t.2 (args_sub ps t.0 vs b.parameters i))
+    call_keeps ls store f r ps (Made k inner) vs s q h i = absurd (no_made ps r k (opened head answers kinds f (types.Function ps r) (Made k inner) q h).0)
+
+  -- ---- shared functions and futures
+
+  given_keeps : (ls : List TypeId) (w : Want TypeId) (store : Store) (given : Option Given) (asks : Act) → Holds store → ((v : Value) → Suits head answers kinds (Some (Gets v)) asks → Has w v) → ((e : Value) → Suits head answers kinds (Some (Fails e)) asks → IsErrorValue e)
+      → Keeps head answers kinds ls w asks → Suits head answers kinds given asks → Keeps head answers kinds ls w (given_or store given asks)
+  given_keeps ls w store None asks s g f k i = k
+  given_keeps ls w store (Some (Gets v)) asks s g f k i = gives head lawful answers kinds ls w store v (weighing 1) s (g v i)
+  given_keeps ls w store (Some (Fails e)) asks s g f k i = f e i
+
+  pub await_keeps : (ls : List TypeId) (store : Store) (given : Option Given) (r : TypeId) (v : Value) → Holds store → Has (FutureOf r) v → Suits head answers kinds given (awaited store None v) → Keeps head answers kinds ls (Of r) (awaited store given v)
+  await_keeps ls store given r (Made (Future call) NoValue) s h i =
+      given_keeps ls (Of r) store given (Awaits 0 call) s (λ v j. by v (answers call) h j) (λ e j. j) (some (answers call) h) i
+    where
+      some : (o : Option TypeId) → AtSome o (λ u. Below head u r) → AtSome o (λ t. Unit {0})
+      some None h = h
+      some (Some t) h = tt
+
+      by : (v : Value) (o : Option TypeId) → AtSome o (λ u. Below head u r) → AtSome o (λ t. Has (Of t) v) → Has (Of r) v
+      by v None h j = absurd h
+      by v (Some t) h j = has_sub head lawful answers kinds v (Of t) (Of r) j h
+  await_keeps ls store given r v s h i = absurd h
+
+  pub send_keeps : (ls : List TypeId) (store : Store) (given : Option Given) (f r : TypeId) (how : Sort) (ps rs : List TypeId) (v : Value) (vs : List Value) → Holds store → (how ≡ sort.Local → ⊥) → head f ≡ node.Func how ps rs → ResultOf head rs r → Has (Of f) v → Each (map (λ t. Of t) ps) vs
+      → Suits head answers kinds given (sent store None ps rs v vs) → Keeps head answers kinds ls (FutureOf r) (sent store given ps rs v vs)
+  send_keeps ls store given f r how ps rs v vs s n q t h i j = by v (opened head answers kinds f (node.Func how ps rs) v q h) j
+    where
+      not_local : {Q : Type 0} (P : Type 0) (x : Sort) → (x ≡ sort.Local → ⊥) → Callable (node.Func x ps rs) P → Q
+      not_local P sort.Local n c = absurd (n refl)
+      not_local P sort.Shared n c = absurd c
+      not_local P sort.Query n c = absurd c
+
+      by : (v : Value) → At head answers kinds (node.Func how ps rs) f v → Suits head answers kinds given (sent store None ps rs v vs) → Keeps head answers kinds ls (FutureOf r) (sent store given ps rs v vs)
+      by (Made (Leaf (part.Method p m)) NoValue) k j =
+          given_keeps ls (FutureOf r) store given (Asks (record { callee = p; method = m; parameters = ps; results = rs; arguments = vs })) s (λ v g. g r t) (λ e g. g) i j
+      by (Made (Leaf (part.Method p m)) (AValue u us)) k j = absurd k.1
+      by (Made (Leaf p) inner) k j = absurd k.0.1
+      by (Made Array inner) (inl e, k) j = absurd e
+      by (Made Array inner) (inr e, k) j = absurd e
+      by (Made (Error c m) inner) k j = absurd (true≢false (sym k.0.0))
+      by (Made h inner) k j = absurd k.0
+      by (Function g which) k j = not_local _ how n k
+      by (BuiltIn m holds) k j = not_local _ how n k

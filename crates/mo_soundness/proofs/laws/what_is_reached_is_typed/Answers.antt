@@ -1,0 +1,5 @@
+use Rattle.mo_soundness.proofs.Reached.{reached}
+use Rattle.mo_soundness.proofs.laws.what_is_reached_is_typed.Goals as goal
+
+pub returns : goal.returns
+returns c = λ head lawful answers kinds w store last e g s h r. reached head lawful answers w kinds store last e g s h r

@@ -1,0 +1,8 @@
+pub mod Lawful
+pub mod RunningPatterns
+pub mod Running
+pub mod Keeps
+pub mod Circle
+pub mod Reached
+pub mod Answered
+pub mod Examples

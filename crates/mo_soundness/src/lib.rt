@@ -1,0 +1,11 @@
+//! Typed expressions are never stuck: what runs is a value or can be reduced, and stays typed. It holds the typing of what
+//! runs; each function of `laws` does nothing, and its contract is a theorem about it.
+#![tactic(auto)]
+
+mod laws;
+
+pub use laws::{
+    bounds_in_a_circle_are_too_weak, graphs_are_lawful, reductions_keep_types,
+    small_expressions_are_typed, typed_expressions_go_on, types_rise, values_have_their_types,
+    what_asks_is_answered, what_is_reached_is_typed,
+};
