@@ -1,10 +1,11 @@
 -- Where the bounds of type parameters go in a circle, the parameters are below each type, and yet Nat is within their bounds.
-use Rattle.std.proofs.Common.{◌≡◌, inl, inr, ℕ, zero, suc, List, [], ◌∷◌, Some, refl, sym, subst}
+use Rattle.std.proofs.Common.{◌≡◌, ◌<◌, inl, inr, ℕ, zero, suc, List, [], ◌∷◌, Some, refl, sym, subst, arith}
 use Rattle.mo_types.specs.declared.node.Node.TheVariants as node
 use Rattle.mo_types.specs.declared.node.TypeId.{TypeId}
 use Rattle.mo_types.specs.Sub.{IsSubtype, Sub}
 use Rattle.typed_tree.specs.Instances.{AreWithinBounds, IsInstance, PutIn, argument_of}
-use Rattle.mo_soundness.specs.Circle.{at, circle_head}
+use Rattle.typed_tree.specs.Types.{AreLawful}
+use Rattle.mo_soundness.specs.Circle.{at, circle, circle_head}
 
 mutual
   unfolding Sub
@@ -68,3 +69,11 @@ within (suc (suc (suc (suc i)))) b v t e a = cc
 
 pub nats_within : AreWithinBounds circle_head both nats
 nats_within = record { by = λ p b v t e a. within p.index b v t e a }
+
+-- ---- no rank goes down all the way round
+
+pub circles_are_not_lawful : AreLawful circle → ⊥
+circles_are_not_lawful lawful =
+    let there : lawful.rank 1 < lawful.rank 0 = lawful.bounds_end (at 0) (at 1) (at 0) 0 1 refl refl in
+    let back : lawful.rank 0 < lawful.rank 1 = lawful.bounds_end (at 1) (at 0) (at 1) 1 0 refl refl in
+    omega (arith, there, back)

@@ -17,7 +17,7 @@ ghost use Rattle.mo_meaning.specs.Acts.{Given, Leaves, Store, Stuck};
 ghost use Rattle.mo_meaning.specs.Members.{number};
 ghost use Rattle.mo_meaning.specs.Reduce.{reduce};
 ghost use Rattle.mo_soundness.specs.Answered.{IsAnswered, IsAsking};
-ghost use Rattle.mo_soundness.specs.Circle.{at, circle_head};
+ghost use Rattle.mo_soundness.specs.Circle.{at, circle, circle_head};
 ghost use Rattle.mo_soundness.specs.Examples.{basic_head, nat, reached_twice, sum};
 ghost use Rattle.mo_soundness.specs.Keeps.{IsLonger, IsNoValue, Keeps, Suits, closed};
 ghost use Rattle.mo_soundness.specs.Lawful.{IsLawful};
@@ -73,9 +73,10 @@ pub fn small_expressions_are_typed()
     ensures reduced { reached_twice ≡ Some (Val (number 2)) }
 {}
 
-/// The rules of typing let the bounds of type parameters go in a circle, as in `<A <: B, B <: A>`. Then A is below Text, and yet
-/// Nat is within the bounds of both: so a generic function may use a number as a text.
-pub fn bounds_in_a_circle_are_too_weak()
+/// Where the bounds of type parameters go in a circle, as in `<A <: B, B <: A>`, A is below Text, and yet Nat is within the
+/// bounds of both: a generic function could use a number as a text. So the types of a program have bounds that end.
+pub fn bounds_have_to_end()
     ensures below { IsSubtype circle_head (at 0) (at 3) }
     ensures within { AreWithinBounds circle_head (0 ∷ 1 ∷ []) (at 2 ∷ at 2 ∷ []) }
+    ensures refused { AreLawful circle → ⊥ }
 {}

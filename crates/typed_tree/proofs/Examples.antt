@@ -50,7 +50,7 @@ no_parameter_at (suc zero) v b e = cc
 no_parameter_at (suc (suc n)) v b e = cc
 
 lawful : AreLawful types
-lawful = record { defined = (tt, (tt, tt)); nodes = λ t. lawful_at t.index; bounds = λ t u b c v e f. absurd (no_parameter_at t.index v b e) }
+lawful = record { defined = (tt, (tt, tt)); nodes = λ t. lawful_at t.index; bounds = λ t u b c v e f. absurd (no_parameter_at t.index v b e); rank = λ v. v; bounds_end = λ t b c v w e f. absurd (no_parameter_at t.index v b e) }
 
 mentions : (vs : List ℕ) (n : ℕ) → Mentions head vs n nat
 unfolding Mentions

@@ -64,11 +64,16 @@ bounded_at (suc (suc (suc zero))) v b e = cc
 bounded_at (suc (suc (suc (suc zero)))) v b e = cc
 bounded_at (suc (suc (suc (suc (suc n))))) v b e = cc
 
+any_is_no_parameter : (w : ℕ) (c : TypeId) → head any ≡ node.Variable w c → ⊥
+any_is_no_parameter w c e = cc
+
 lawful : AreLawful generic_types
 lawful = record {
   defined = (tt, (tt, ((omega arith, tt), ((omega arith, (omega arith, tt)), ((omega arith, (omega arith, tt)), tt)))));
   nodes = λ t. lawful_at t.index;
   bounds = λ t u b c v e f. sym (bounded_at t.index v b e) ∙ bounded_at u.index v c f;
+  rank = λ v. v;
+  bounds_end = λ t b c v w e f. absurd (any_is_no_parameter w c (subst (λ x. head x ≡ node.Variable w c) (sym (bounded_at t.index v b e)) f));
 }
 
 nat_mentions : (vs : List ℕ) (n : ℕ) → Mentions head vs n nat

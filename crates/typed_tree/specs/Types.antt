@@ -46,3 +46,6 @@ pub record AreLawful (types : List Slot) : Type 0 where
   pub nodes : (t : TypeId) → IsLawfulNode (head_at types) (head_at types t) × HasNoFuture (head_at types) (head_at types t)
   -- a type parameter has one bound
   pub bounds : (t u b c : TypeId) (v : ℕ) → head_at types t ≡ node.Variable v b → head_at types u ≡ node.Variable v c → b ≡ c
+  -- bounds that are parameters themselves come to an end: each has a lower rank than the parameter that it is the bound of
+  pub rank : ℕ → ℕ
+  pub bounds_end : (t b c : TypeId) (v w : ℕ) → head_at types t ≡ node.Variable v b → head_at types b ≡ node.Variable w c → rank w < rank v
