@@ -16,11 +16,11 @@ field l t = record { label = l; mutable = false; part = t }
 abbrev pub var_field : Bytes → ℕ → Field ℕ
 var_field l t = record { label = l; mutable = true; part = t }
 
--- `{x : T1; var y : T2}`
+-- `{x : A; var y : B}`
 abbrev pub object : Node ℕ
 object = node.Object (field (codes "x") 1 ∷ var_field (codes "y") 2 ∷ [])
 
--- `{#a : T1; #b : T2}`
+-- `{#a : A; #b : B}`
 abbrev pub variant : Node ℕ
 variant = node.Variant (field (codes "a") 1 ∷ field (codes "b") 2 ∷ [])
 
