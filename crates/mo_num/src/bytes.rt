@@ -6,9 +6,15 @@ use std::alloc::Global;
 use std::marker::Model;
 
 /// A list of bytes, which contracts see as a list of numbers below 256.
-#[derive(Drop)]
 pub struct Bytes {
     list: Vec<u8>,
+}
+
+// Written here, so that it is proved here, and not again in each crate that lets bytes go.
+impl Drop for Bytes {
+    fn drop(self) {
+        let Bytes { list: _list } = self;
+    }
 }
 
 impl Model for Bytes {
@@ -47,7 +53,8 @@ impl Bytes {
     pub fn into_vec(self) -> Vec<u8>
         ensures { result.items ≡ self }
     {
-        self.list
+        let Bytes { list } = self;
+        list
     }
 
     /// The bytes as a slice.

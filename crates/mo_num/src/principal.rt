@@ -8,9 +8,16 @@ use std::marker::Model;
 
 /// A principal: IC interface specification, section "Principals". It has at most 29 bytes, and contracts see it as the
 /// list of them. The bytes lie in the value itself, so that making and copying one takes no memory.
-#[derive(Drop, PartialEq, Eq)]
+#[derive(PartialEq, Eq)]
 pub struct Principal {
     list: SmallVec<u8, 29>,
+}
+
+// Written here, so that it is proved here, and not again in each crate that lets principals go.
+impl Drop for Principal {
+    fn drop(self) {
+        let Principal { list: _list } = self;
+    }
 }
 
 impl Model for Principal {

@@ -6,9 +6,15 @@ use std::alloc::Global;
 use std::marker::Model;
 
 /// A list of items, which contracts see as the list of their values.
-#[derive(Drop)]
 pub struct Sequence<T> {
     list: Vec<T>,
+}
+
+// Written here, so that it is proved here, and not again in each crate that lets items go.
+impl<T: Drop> Drop for Sequence<T> {
+    fn drop(self) {
+        let Sequence { list: _list } = self;
+    }
 }
 
 impl<T> Model for Sequence<T> {
@@ -38,7 +44,8 @@ impl<T> Sequence<T> {
     pub fn into_vec(self) -> Vec<T>
         ensures { result.items ≡ self }
     {
-        self.list
+        let Sequence { list } = self;
+        list
     }
 
     /// The items as a slice.

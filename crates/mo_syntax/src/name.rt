@@ -7,10 +7,19 @@ use mo_num::{Bytes, Memory};
 use std::alloc::Global;
 
 /// A name, as its bytes, and where it stands in the source.
-#[derive(Drop)]
 pub struct Name {
     pub bytes: Bytes,
     pub place: Place,
+}
+
+// Written here, so that it is proved here, and not again in each crate that lets a name go.
+impl Drop for Name {
+    fn drop(self) {
+        let Name {
+            bytes: _bytes,
+            place: _place,
+        } = self;
+    }
 }
 
 impl Name {
@@ -29,6 +38,14 @@ impl Name {
         ensures { IfOk result (λ made. made ≡ self.now) }
     {
         Name::new(alloc, self.place, self.bytes.as_slice())
+    }
+
+    /// The name at another place. Takes no memory.
+    pub fn placed(self, place: Place) -> Name
+        ensures { result ≡ record { bytes = self.bytes; place = place } }
+    {
+        let Name { bytes, place: _ } = self;
+        Name { bytes, place }
     }
 
     /// Its bytes.

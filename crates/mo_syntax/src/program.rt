@@ -9,12 +9,22 @@ use crate::text::Text;
 use crate::types::TypeExpression;
 
 /// The tree of a program.
-#[derive(Drop)]
 pub struct Tree {
     pub imports: Items<Node<Import>>,
     pub actor: Node<Actor>,
     /// Whether a `;` stands behind the actor.
     pub semicolon: bool,
+}
+
+// Written here, so that it is proved here, and not again in each crate that lets a tree go.
+impl Drop for Tree {
+    fn drop(self) {
+        let Tree {
+            imports: _imports,
+            actor: _actor,
+            semicolon: _semicolon,
+        } = self;
+    }
 }
 
 /// `import x "path";`

@@ -7,10 +7,19 @@ use std::alloc::Global;
 
 /// A text, as the bytes that it stands for, and where it stands in the source. The bytes are UTF-8 unless an escape of one
 /// byte made them otherwise.
-#[derive(Drop)]
 pub struct Text {
     pub bytes: Bytes,
     pub place: Place,
+}
+
+// Written here, so that it is proved here, and not again in each crate that lets a text go.
+impl Drop for Text {
+    fn drop(self) {
+        let Text {
+            bytes: _bytes,
+            place: _place,
+        } = self;
+    }
 }
 
 impl Text {
@@ -22,6 +31,14 @@ impl Text {
             bytes: Bytes::from_slice(alloc, self.bytes.as_slice())?,
             place: self.place,
         })
+    }
+
+    /// The text at another place. Takes no memory.
+    pub fn placed(self, place: Place) -> Text
+        ensures { result ≡ record { bytes = self.bytes; place = place } }
+    {
+        let Text { bytes, place: _ } = self;
+        Text { bytes, place }
     }
 
     /// Its bytes.

@@ -64,14 +64,8 @@ impl TokenKind {
         ensures { result ≡ placed place self }
     {
         match self {
-            TokenKind::Identifier(name) => TokenKind::Identifier(Name {
-                bytes: name.bytes,
-                place,
-            }),
-            TokenKind::Text(text) => TokenKind::Text(Text {
-                bytes: text.bytes,
-                place,
-            }),
+            TokenKind::Identifier(name) => TokenKind::Identifier(name.placed(place)),
+            TokenKind::Text(text) => TokenKind::Text(text.placed(place)),
             kind => kind,
         }
     }

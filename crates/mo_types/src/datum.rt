@@ -26,7 +26,13 @@ pub enum Datum {
 }
 
 /// Values, each part before the parts inside it.
-#[derive(Drop)]
 pub struct Data {
     pub parts: Sequence<Datum>,
+}
+
+// Written here, so that it is proved here, and not again in each crate that lets values go.
+impl Drop for Data {
+    fn drop(self) {
+        let Data { parts: _parts } = self;
+    }
 }

@@ -20,10 +20,19 @@ const MOST_NODES: usize = 4_096;
 const MOST_ENTRIES: usize = 65_536;
 
 /// Types by number, which contracts see as the list of what stands under each number.
-#[derive(Drop)]
 pub struct TypeGraph {
     slots: IndexMap<Key, Option<Node>>,
     entries: usize,
+}
+
+// Written here, so that it is proved here, and not again in each crate that lets a graph go.
+impl Drop for TypeGraph {
+    fn drop(self) {
+        let TypeGraph {
+            slots: _slots,
+            entries: _entries,
+        } = self;
+    }
 }
 
 impl Model for TypeGraph {

@@ -75,7 +75,6 @@ pub struct DataSegment {
 }
 
 /// A module. Indices of functions, tables, memories and globals count the imported ones first.
-#[derive(Drop)]
 pub struct Module {
     pub types: Sequence<FunctionType>,
     pub imports: Sequence<Import>,
@@ -87,4 +86,22 @@ pub struct Module {
     pub start: Option<u32>,
     pub elements: Sequence<ElementSegment>,
     pub segments: Sequence<DataSegment>,
+}
+
+// Written here, so that it is proved here, and not again in each crate that lets a module go.
+impl Drop for Module {
+    fn drop(self) {
+        let Module {
+            types: _types,
+            imports: _imports,
+            functions: _functions,
+            tables: _tables,
+            memories: _memories,
+            globals: _globals,
+            exports: _exports,
+            start: _start,
+            elements: _elements,
+            segments: _segments,
+        } = self;
+    }
 }
