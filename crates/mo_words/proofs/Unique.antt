@@ -55,9 +55,9 @@ pub no_play_run : (words f g : List (List ℕ)) (o p : Options) (s t : List ℕ)
 no_play_run words f g o p s t a b = omega (arith, ap letter (sym a.words_are ∙ b.words_are))
 
 -- The numbers of the options are within their ranges.
-pub steps_within : (settings : List Setting) (words : List (List ℕ)) → AreSettings settings words → 10000 ≤ steps_of settings
-steps_within [] words a = omega arith
-steps_within (Steps n ∷ settings) words a = a.4.0
+pub steps_within : (settings : List Setting) (words : List (List ℕ)) → AreSettings settings words → (10000 ≤ steps_of settings) × (steps_of settings ≤ 1000000000000)
+steps_within [] words a = (omega arith, omega arith)
+steps_within (Steps n ∷ settings) words a = a.4
 steps_within (Pages n ∷ settings) words a = steps_within settings a.1 a.6
 steps_within (Stack n ∷ settings) words a = steps_within settings a.1 a.6
 
@@ -67,8 +67,8 @@ pages_within (Steps n ∷ settings) words a = pages_within settings a.1 a.6
 pages_within (Pages n ∷ settings) words a = a.4
 pages_within (Stack n ∷ settings) words a = pages_within settings a.1 a.6
 
-pub stack_within : (settings : List Setting) (words : List (List ℕ)) → AreSettings settings words → 8192 ≤ stack_of settings
-stack_within [] words a = omega arith
+pub stack_within : (settings : List Setting) (words : List (List ℕ)) → AreSettings settings words → (8192 ≤ stack_of settings) × (stack_of settings ≤ 16777216)
+stack_within [] words a = (omega arith, omega arith)
 stack_within (Steps n ∷ settings) words a = stack_within settings a.1 a.6
 stack_within (Pages n ∷ settings) words a = stack_within settings a.1 a.6
-stack_within (Stack n ∷ settings) words a = a.4.0
+stack_within (Stack n ∷ settings) words a = a.4

@@ -1,0 +1,14 @@
+pub mod OpenCalls
+pub mod Incoming
+pub mod Counts
+pub mod Fewer
+pub mod Finishing
+pub mod Calling
+pub mod Answering
+pub mod Lifting
+pub mod Starting
+pub mod Composition
+pub mod Segments
+pub mod Carrying
+pub mod Scripts
+pub mod Borders

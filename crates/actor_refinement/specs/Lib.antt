@@ -1,0 +1,9 @@
+pub mod Limits
+pub mod SoundEvents
+pub mod Ends
+pub mod Agreement
+pub mod Refines
+pub mod Simulates
+pub mod Segments
+pub mod Laws
+pub mod Borders
