@@ -1,0 +1,3 @@
+pub mod CallingModule
+pub mod WaitingModule
+pub mod GrowingModule
