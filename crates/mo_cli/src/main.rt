@@ -1,20 +1,10 @@
 //! The command line of the compiler.
 #![tactic(auto)]
 
-mod compile;
 mod help;
-mod laws;
-mod line;
-mod replay;
-mod run;
-mod status;
-#[cfg(test)]
-mod tests;
 
 use crate::help::{HELP, VERSION};
-use crate::line::tell;
-use crate::run::run_mo;
-use crate::status::Status;
+use mo_command::{Status, run_mo, tell};
 use outer::{RealFiles, RealSink};
 use std::alloc::{AllocError, Global};
 use std::io::ErrorKind;

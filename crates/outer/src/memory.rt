@@ -8,9 +8,6 @@ use mo_num::{Bytes, Memory};
 use std::alloc::Global;
 use std::collections::BTreeMap;
 
-#[cfg(test)]
-mod tests;
-
 /// What each name holds.
 pub type Names = BTreeMap<String, Bytes>;
 

@@ -10,9 +10,6 @@ use std::io::{ErrorKind, Read, Write};
 use std::rt::Files as SystemFiles;
 use std::{fs, io};
 
-#[cfg(test)]
-mod tests;
-
 /// The system's files, by their paths.
 ///
 /// What the system answers is not proved. Each count rises at each error of std but that a file is not found, and stays
@@ -121,6 +118,20 @@ impl<W: Write> RealSink<W> {
         ensures { ⟦<RealSink<W> as Sink>⟧.faults result ≡ 0 }
     {
         RealSink { writer, faults: 0 }
+    }
+
+    /// The writer.
+    pub fn writer(&self) -> &W
+        ensures { result.now ≡ self.now.writer }
+    {
+        &self.writer
+    }
+
+    /// How often the writer failed.
+    pub fn count_of_faults(&self) -> u64
+        ensures { result ≡ ⟦<RealSink<W> as Sink>⟧.faults self.now }
+    {
+        self.faults
     }
 }
 

@@ -3,7 +3,9 @@ pub mod Runs
 pub mod Loads
 pub mod Finds
 pub mod Calls
-pub mod Answering
+pub mod Places
+pub mod Refined
+pub mod Told
 pub mod Valid
 pub mod Short
 pub mod Spelled

@@ -7,7 +7,7 @@ use Rattle.wasm_tree.specs.declared.module_parts.Function.{Function}
 use Rattle.wasm_tree.specs.declared.module_parts.Export.{Export}
 use Rattle.wasm_tree.specs.Exec.{ExecutionLimits}
 use Rattle.wasm_tree.specs.Load.{blank, Instance, Loaded, load}
-use Rattle.query_module.specs.Answers.{IsEnough}
+use Rattle.actor_refinement.specs.Limits.{IsWithin}
 use Rattle.query_module.specs.Tree.{query_function, functions_from, tree_of_parts}
 
 abbrev zeros : List ℕ
@@ -26,10 +26,10 @@ first_memory bytes = bytes ++ drop (0 + length bytes) zeros
 abbrev pub first_instance : List ℕ → Instance
 first_instance bytes = record { memory = first_memory bytes; globals = []; table = blank 0 None }
 
-pub loads : (functions : List Function) (exports : List Export) (bytes : List ℕ) (limits : ExecutionLimits) → IsEnough limits → length bytes ≤ 65536
+pub loads : (functions : List Function) (exports : List Export) (bytes : List ℕ) (limits : ExecutionLimits) → IsWithin limits → length bytes ≤ 65536
     → load limits (tree_of_parts functions exports bytes) ≡ Loaded (first_instance bytes)
-loads functions exports bytes limits enough short =
-    let pages : nat_le 1 limits.pages ≡ true = le_test 1 limits.pages enough.pages in
+loads functions exports bytes limits within short =
+    let pages : nat_le 1 limits.pages ≡ true = le_test 1 limits.pages within.least_pages in
     let fits : nat_le (0 + length bytes) (length zeros) ≡ true = le_test (0 + length bytes) (length zeros) (omega (arith, length-zeros)) in
     rw (pages, fits) refl
 

@@ -19,7 +19,7 @@ use Rattle.ic0_world.specs.Act.{Gives, range, is_answered, call}
 use Rattle.canister_host.specs.Entries.{imported_function, answer_of, call_of, host}
 use Rattle.canister_host.specs.Execution.{Finishes, store_of, execution}
 use Rattle.canister_host.specs.HostRun.{entry_of}
-use Rattle.query_module.specs.Answers.{IsEnough}
+use Rattle.actor_refinement.specs.Limits.{IsWithin}
 use Rattle.query_module.specs.Tree.{query_function, tree_of_parts}
 
 le_test : (a b : ℕ) → a ≤ b → nat_le a b ≡ true
@@ -104,14 +104,14 @@ own_type own exports bytes k offset size at = rw (own_signature own k (query_fun
 
 -- A call of it, under all limits, replies with its part of the memory.
 call_replies : (own : List Function) (exports : List Export) (bytes : List ℕ) (limits : ExecutionLimits) (i : Instance) (w : World) (k offset size : ℕ)
-    → IsEnough limits → slice_get own k ≡ Some (query_function offset size) → MayAnswer w → IsPart i.memory offset size
+    → IsWithin limits → slice_get own k ≡ Some (query_function offset size) → MayAnswer w → IsPart i.memory offset size
     → enter (suc limits.stack) limits (tree_of_parts own exports bytes) (host (tree_of_parts own exports bytes)) limits.stack (suc (suc k)) limits.steps (store_of i w) []
     ≡ Back (limits.steps - 4) (store_of i (replied w (range offset size i.memory))) []
-call_replies own exports bytes limits i w k offset size enough at may part =
+call_replies own exports bytes limits i w k offset size within at may part =
     let tree = tree_of_parts own exports bytes in
-    let depth : limits.stack ≡ suc (limits.stack - 1) = omega (arith, enough.stack) in
-    let steps : limits.steps ≡ suc (suc (suc (suc (limits.steps - 4)))) = omega (arith, enough.steps) in
-    let frame : nat_lt limits.stack 10 ≡ false = not_below limits.stack 10 (omega (arith, enough.stack)) in
+    let depth : limits.stack ≡ suc (limits.stack - 1) = omega (arith, within.least_stack) in
+    let steps : limits.steps ≡ suc (suc (suc (suc (limits.steps - 4)))) = omega (arith, within.least_steps) in
+    let frame : nat_lt limits.stack 10 ≡ false = not_below limits.stack 10 (omega (arith, within.least_stack)) in
     let reply : List ℕ = range offset size i.memory in
     let end : Called World = Back (limits.steps - 4) (store_of i (replied w reply)) [] in
     let runs = function_runs own exports bytes limits (host tree) i w (with_data w reply) (replied w reply) (limits.stack - 1) limits.stack (limits.steps - 4) (suc (suc k)) offset size frame (append_answers own exports bytes w i.memory offset size may part) (reply_answers own exports bytes w i.memory reply may) in
@@ -127,7 +127,7 @@ of_kind k w = record w { kind = k }
 
 -- So an execution of it finishes, and has replied with that part.
 pub execution_replies : (own : List Function) (exports : List Export) (bytes : List ℕ) (limits : ExecutionLimits) (i : Instance) (kind : ExecutionKind) (w : World) (k offset size : ℕ)
-    → IsEnough limits → slice_get own k ≡ Some (query_function offset size) → MayAnswer (of_kind kind w) → IsPart i.memory offset size
+    → IsWithin limits → slice_get own k ≡ Some (query_function offset size) → MayAnswer (of_kind kind w) → IsPart i.memory offset size
     → execution limits (tree_of_parts own exports bytes) i (entry_of kind (Some (suc (suc k))) []) w ≡ Finishes (store_of i (replied (of_kind kind w) (range offset size i.memory)))
-execution_replies own exports bytes limits i kind w k offset size enough at may part =
-    rw (call_replies own exports bytes limits i (of_kind kind w) k offset size enough at may part) refl
+execution_replies own exports bytes limits i kind w k offset size within at may part =
+    rw (call_replies own exports bytes limits i (of_kind kind w) k offset size within at may part) refl

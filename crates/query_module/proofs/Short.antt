@@ -4,8 +4,8 @@ use Rattle.std.specs.Prelude.{IfSome}
 use Rattle.std.specs.List.{AllByRecursion}
 use Rattle.wasm_tree.specs.declared.module_parts.Module.{Module}
 use Rattle.wasm_tree.specs.Bounded.{Within}
-use Rattle.wasm_tree.specs.Binary.{IsFunctionType, IsImport, IsSignature, IsTable, IsLimits, IsGlobal, IsExport, IsStart, IsElement, IsCode, IsData, IsCustom, After, header, Written}
-use Rattle.wasm_tree.specs.Spelling.{Exactly, IsEach, IsMany, IsVectorSection}
+use Rattle.wasm_tree.specs.Binary.{IsFunctionType, IsImport, IsSignature, IsTable, IsLimits, IsGlobal, IsExport, IsStart, IsElement, IsCode, IsData, After, header, Written}
+use Rattle.wasm_tree.specs.Spelling.{IsEach, IsVectorSection}
 use Rattle.wasm_tree.proofs.Within.{exactly_within, then_within, after_within, none_within, each_within, vector_section_within, start_within}
 
 -- The items of a section take so many bytes.

@@ -1,4 +1,6 @@
 pub mod Message
 pub mod ActorRun
-pub mod Answers
 pub mod Tree
+pub mod Program
+pub mod Answers
+pub mod Laws

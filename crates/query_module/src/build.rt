@@ -1,6 +1,6 @@
 //! Builds the module of constant queries.
 ghost use Rattle.std.specs.Prelude.{◌≡◌, IfOk};
-ghost use Rattle.query_module.specs.Answers.{AreQueries, IsBuilt};
+ghost use Rattle.query_module.specs.Answers.{AreQueries, IsBuiltOf};
 ghost use Rattle.query_module.specs.Tree.{IsQueryTree};
 
 use crate::parts::{data, exports, functions, imports, memories, types};
@@ -31,14 +31,14 @@ fn query_module(alloc: Global, methods: &[Method]) -> Result<Module, Memory>
     })
 }
 
-/// The bytes of the actor's module: a valid module whose run, by any host with at least the least limits, is the actor's.
-/// It is installed, and then a query or a call of a method is replied to with the method's number as a Candid message, a
-/// call of `__resume` with no values, and any other is rejected with `no method`. The answer is Memory only where there
-/// was no memory for the module.
+/// The bytes of the actor's module: a valid module that does what the actor of the methods does, over calls, answers to
+/// calls and upgrades, under all limits of a command line, and is never exhausted. It is installed, and then a query or a
+/// call of a method is replied to with the method's number as a Candid message, a call of `__resume` with no values, and any
+/// other is rejected with `no method`. The answer is Memory only where there was no memory for the module.
 /// WebAssembly Core 1.0, sections 2.5 and 5.5; IC interface specification, sections Imports, Update call and Query call.
 pub fn build_queries(alloc: Global, methods: &[Method]) -> Result<Bytes, Memory>
     requires { AreQueries methods.now }
-    ensures { IfOk result (λ bytes. IsBuilt methods.now bytes) }
+    ensures { IfOk result (λ bytes. IsBuiltOf methods.now bytes) }
 {
     let tree = query_module(alloc, methods)?;
     write(alloc, &tree)

@@ -1,7 +1,0 @@
-use Rattle.std.proofs.Common.{take}
-use Rattle.std.specs.List.{AllByRecursion}
-use Rattle.mo_cli.specs.Replays.{IsTaken}
-use Rattle.mo_cli.proofs.replay.first_untaken.Given as goal
-
-abbrev pub invariant-loop-index : goal.invariant-loop-index
-invariant-loop-index l = AllByRecursion IsTaken (take l.index l.events)
