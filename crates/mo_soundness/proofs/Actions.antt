@@ -1,5 +1,5 @@
 -- Each action on values that fit.
-use Rattle.std.proofs.Common.{◌≡◌, ◌⊎◌, inl, inr, ℕ, List, [], ◌∷◌, map, true≢false, Option, Some, None, refl, sym, ap, ◌∙◌, subst, slice_get}
+use Rattle.std.proofs.Common.{◌≡◌, ◌≢◌, ◌⊎◌, inl, inr, ℕ, List, [], ◌∷◌, map, Bool, true, false, true≢false, Option, Some, None, refl, sym, ap, ◌∙◌, subst, slice_get}
 use Rattle.mo_types.specs.declared.datum.Datum.TheVariants as part
 use Rattle.mo_types.specs.declared.node.Node.{Node}
 use Rattle.mo_types.specs.declared.node.Node.TheVariants as node
@@ -26,12 +26,26 @@ use Rattle.mo_meaning.specs.Jumps.{unwrapped}
 use Rattle.mo_meaning.specs.Places.{values_of_list}
 use Rattle.mo_soundness.specs.Keeps.{closed, HasEach, Keeps, Suits}
 use Rattle.mo_soundness.specs.Lawful.{IsLawful}
-use Rattle.mo_soundness.specs.Running.{context, AnswerTypes, Callable, HasValue, HaveValues, FunctionOf, StoreTyped}
+use Rattle.mo_soundness.specs.Running.{context, in_sort, AnswerTypes, Callable, HasValue, HaveValues, FunctionOf, StoreTyped}
 use Rattle.mo_soundness.proofs.Calls.{member_type, MembersKeep, call_keeps, await_keeps, send_keeps}
 use Rattle.mo_soundness.proofs.Cells.{gives, new_keeps, read_keeps, write_keeps, answer_keeps, element_keeps}
 use Rattle.mo_soundness.proofs.Found.{At, opened, made_at, unit_fits, error_of}
 use Rattle.mo_soundness.proofs.Values.{operates}
 use Rattle.mo_soundness.proofs.Wanted.{reflexive}
+
+-- the body of a shared function is one in which calls may be made
+calls_may : (s : Sort) (b : Bool) → in_sort s b ≡ sort.Shared → b ≡ true
+calls_may s true h = refl
+calls_may sort.Local false h = absurd (let z : sort.Local ≡ sort.Shared = h in cc)
+calls_may sort.Shared false h = absurd (let z : sort.Local ≡ sort.Shared = h in cc)
+calls_may sort.Query false h = absurd (let z : sort.Local ≡ sort.Shared = h in cc)
+
+-- that of a function that is no shared one is one in which nothing is thrown
+throws_may : (s : Sort) (b : Bool) → in_sort s b ≢ sort.Local → b ≡ true
+throws_may s true h = refl
+throws_may sort.Local false h = absurd (h refl)
+throws_may sort.Shared false h = absurd (h refl)
+throws_may sort.Query false h = absurd (h refl)
 
 module _ (head : TypeId → Node TypeId) (lawful : IsLawful head) (answers : AnswerTypes) (kinds : List TypeId) where
   abbrev Has : Want TypeId → Value → Type 0
@@ -118,7 +132,7 @@ module _ (head : TypeId → Node TypeId) (lawful : IsLawful head) (answers : Ans
       subst (λ x. Callable x (FunctionOf head answers kinds (BuiltInCode m (values_of_list vs)) t)) (sym k.2) (ws, t, h, held ws vs i, reflexive head lawful t)
 
   module _ (members : MembersKeep head lawful answers kinds) where
-    pub acts_keep : (ls : List TypeId) (store : Store) (given : Option Given) (a : Action) (s : Sort) (ws : List (Want TypeId)) (g : Want TypeId) (vs : List Value) → Holds store → ActionTyped head (context s (closed ls)) a ws g → Each ws vs → Suits head answers kinds given (act head None store a vs) → K ls g (act head given store a vs)
+    pub acts_keep : (ls : List TypeId) (store : Store) (given : Option Given) (a : Action) (s : Sort) (ws : List (Want TypeId)) (g : Want TypeId) (vs : List Value) → Holds store → ActionTyped head (context (in_sort s answers.may_call) (closed ls)) a ws g → Each ws vs → Suits head answers kinds given (act head None store a vs) → K ls g (act head given store a vs)
     acts_keep ls store given (action.Operate o) s ws g vs st t h i =
         answer_keeps head lawful answers kinds ls g store (operation_cost o (shapes_list vs) (operate head o (shapes_list vs))) (operate head o (shapes_list vs)) st (operates head answers kinds o ws g vs t h)
     acts_keep ls store given (action.BuiltIn m) s ws g vs st t h i =
@@ -143,7 +157,7 @@ module _ (head : TypeId → Node TypeId) (lawful : IsLawful head) (answers : Ans
         subst (λ g. K ls g (act head given store action.Print vs)) (sym t.1.1) (subst (λ vs. K ls (Of t.1.0) (act head given store action.Print vs)) v.1 (print_keeps ls store t.0.0 t.1.0 v.0 st t.0.2 t.1.2 v.2))
     acts_keep ls store given action.Throw s ws g vs st t h i =
         let v = one (Of t.1.0) ws vs t.1.1 h in
-        subst (λ vs. K ls g (act head given store action.Throw vs)) v.1 (error_of head answers kinds t.1.0 v.0 t.1.2 v.2)
+        subst (λ vs. K ls g (act head given store action.Throw vs)) v.1 (error_of head answers kinds t.1.0 v.0 t.1.2 v.2, throws_may s answers.may_call t.0)
     acts_keep ls store given action.Call s ws g vs st t h i =
         let v = first (Of t.0) (map (λ t. Of t) t.2) ws vs t.4 h in
         subst (λ g. K ls g (act head given store action.Call vs)) (sym t.5) (subst (λ vs. K ls (Of t.1) (act head given store action.Call vs)) v.2 (call_keeps head lawful answers kinds members ls store t.0 t.1 t.2 v.0 v.1 st t.3 v.3 v.4))
@@ -153,12 +167,12 @@ module _ (head : TypeId → Node TypeId) (lawful : IsLawful head) (answers : Ans
         subst (λ g. K ls g (act head given store (action.Send ps rs) vs)) (sym t.6) (subst (λ vs. K ls (FutureOf t.1) (act head given store (action.Send ps rs) vs)) v.2 (by t.3 v.0 v.1 v.3 v.4 j))
       where
         by : ((head t.0 ≡ node.Func sort.Shared ps rs) ⊎ (head t.0 ≡ node.Func sort.Query ps rs)) → (v : Value) (us : List Value) → Has (Of t.0) v → Each (map (λ t. Of t) ps) us → Suits head answers kinds given (sent store None ps rs v us) → K ls (FutureOf t.1) (sent store given ps rs v us)
-        by (inl e) v us k l j = send_keeps head lawful answers kinds ls store given t.0 t.1 sort.Shared ps rs v us st (λ z. cc) e t.5 k l j
-        by (inr e) v us k l j = send_keeps head lawful answers kinds ls store given t.0 t.1 sort.Query ps rs v us st (λ z. cc) e t.5 k l j
+        by (inl e) v us k l j = send_keeps head lawful answers kinds ls store given t.0 t.1 sort.Shared ps rs v us st (calls_may s answers.may_call t.2) (λ z. cc) e t.5 k l j
+        by (inr e) v us k l j = send_keeps head lawful answers kinds ls store given t.0 t.1 sort.Query ps rs v us st (calls_may s answers.may_call t.2) (λ z. cc) e t.5 k l j
     acts_keep ls store given action.Await s ws g vs st t h i =
         let v = one (FutureOf t.0) ws vs t.2 h in
         let j = subst (λ vs. Suits head answers kinds given (act head None store action.Await vs)) (sym v.1) i in
-        subst (λ g. K ls g (act head given store action.Await vs)) (sym t.3) (subst (λ vs. K ls (Of t.0) (act head given store action.Await vs)) v.1 (await_keeps head lawful answers kinds ls store given t.0 v.0 st v.2 j))
+        subst (λ g. K ls g (act head given store action.Await vs)) (sym t.3) (subst (λ vs. K ls (Of t.0) (act head given store action.Await vs)) v.1 (await_keeps head lawful answers kinds ls store given t.0 v.0 st (calls_may s answers.may_call t.1) v.2 j))
     acts_keep ls store given (action.Break l) s ws g vs st t h i =
         let v = one (Of t.0) ws vs t.2 h in
         subst (λ vs. K ls g (act head given store (action.Break l) vs)) v.1 (t.0, t.1, v.2)

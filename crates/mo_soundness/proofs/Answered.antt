@@ -30,29 +30,29 @@ use Rattle.mo_soundness.specs.Answered.{IsAsking, IsAnswered}
 
 -- ---- what does not ask
 
-goes_no : (store : Store) (o : Option Value) → IsAsking (goes_to store o) → ⊥
+pub goes_no : (store : Store) (o : Option Value) → IsAsking (goes_to store o) → ⊥
 goes_no store None h = h
 goes_no store (Some v) h = h
 
-written_no : (store : Store) (o : Option ℕ) (v : Value) → IsAsking (written store o v) → ⊥
+pub written_no : (store : Store) (o : Option ℕ) (v : Value) → IsAsking (written store o v) → ⊥
 written_no store None v h = h
 written_no store (Some at) v h = h
 
-answered_no : (store : Store) (cost : Cost) (a : Answer Code) → IsAsking (answered store cost a) → ⊥
+pub answered_no : (store : Store) (cost : Cost) (a : Answer Code) → IsAsking (answered store cost a) → ⊥
 answered_no store cost (Gives v) h = h
 answered_no store cost (answer.Traps text) h = h
 answered_no store cost answer.Stuck h = h
 
-written_in_no : (store : Store) (a : Answer Code) (v : Value) → IsAsking (written_in store a v) → ⊥
+pub written_in_no : (store : Store) (a : Answer Code) (v : Value) → IsAsking (written_in store a v) → ⊥
 written_in_no store (Gives c) v h = written_no store (cell_of (value_of c)) v h
 written_in_no store (answer.Traps text) v h = h
 written_in_no store answer.Stuck v h = h
 
-printed_no : (store : Store) (v : Value) → IsAsking (printed store v) → ⊥
+pub printed_no : (store : Store) (v : Value) → IsAsking (printed store v) → ⊥
 printed_no store (Made (Leaf (part.Text t)) NoValue) h = h
 printed_no store v h = h
 
-unwrapped_no : (store : Store) (l : ℕ) (v : Value) → IsAsking (unwrapped store l v) → ⊥
+pub unwrapped_no : (store : Store) (l : ℕ) (v : Value) → IsAsking (unwrapped store l v) → ⊥
 unwrapped_no store l (Made (Leaf part.Null) NoValue) h = h
 unwrapped_no store l (Made Present (AValue v NoValue)) h = h
 unwrapped_no store l v h = h
@@ -84,12 +84,12 @@ member_no : (store : Store) (m : Member) (holds vs : List Value) → IsAsking (c
 member_no store member.NextChar (t ∷ place ∷ []) [] h = char_no store t place (text_of (shape_of t)) (number_in (held store (cell_of place))) h
 member_no store m holds vs h = frame_no store (body_of m holds vs) h
 
-call_no : (store : Store) (f : Value) (vs : List Value) → IsAsking (call store f vs) → ⊥
+pub call_no : (store : Store) (f : Value) (vs : List Value) → IsAsking (call store f vs) → ⊥
 call_no store (Function group which) vs h = function_no store group group which vs h
 call_no store (BuiltIn m holds) vs h = member_no store m (value_list holds) vs h
 call_no store (Made head inside) vs h = h
 
-cases_no : (store : Store) (weight : ℕ) (v : Value) (cases : Cases) → IsAsking (first_case store weight v cases) → ⊥
+pub cases_no : (store : Store) (weight : ℕ) (v : Value) (cases : Cases) → IsAsking (first_case store weight v cases) → ⊥
 cases_no store weight v NoCase h = h
 cases_no store weight v (ACase p e cases) h = by (matches p (shape_of v)) (λ k. cases_no store (weight + trying p v) v cases k) h
   where
@@ -97,7 +97,7 @@ cases_no store weight v (ACase p e cases) h = by (matches p (shape_of v)) (λ k.
     by None k h = k h
     by (Some vs) k h = h
 
-chosen_no : (store : Store) (v : Value) (a b : Exp) → IsAsking (chosen store v a b) → ⊥
+pub chosen_no : (store : Store) (v : Value) (a b : Exp) → IsAsking (chosen store v a b) → ⊥
 chosen_no store (Made (Leaf (part.Flag true)) NoValue) a b h = h
 chosen_no store (Made (Leaf (part.Flag false)) NoValue) a b h = h
 chosen_no store v a b h = h
@@ -138,7 +138,7 @@ module _ (head : TypeId → Node TypeId) (g : Given) (store : Store) where
   abbrev Answers : Act → Act → Type 0
   Answers a b = IsAsking a → IsAnswered b
 
-  asking_inside : (f : Exp → Exp) (a : Act) → IsAsking (inside f a) → IsAsking a
+  pub asking_inside : (f : Exp → Exp) (a : Act) → IsAsking (inside f a) → IsAsking a
   asking_inside f (Asks r) h = tt
   asking_inside f (Awaits n c) h = tt
   asking_inside f (Goes cost st e) h = h
@@ -157,7 +157,7 @@ module _ (head : TypeId → Node TypeId) (g : Given) (store : Store) where
   answers_inside : (f : Exp → Exp) (a b : Act) → Answers a b → Answers (inside f a) (inside f b)
   answers_inside f a b k h = answered_inside f b (k (asking_inside f a h))
 
-  asking_label : (a : Act) → IsAsking (at_label store a) → IsAsking a
+  pub asking_label : (a : Act) → IsAsking (at_label store a) → IsAsking a
   asking_label (Asks r) h = tt
   asking_label (Awaits n c) h = tt
   asking_label (Goes cost st e) h = h
@@ -174,7 +174,7 @@ module _ (head : TypeId → Node TypeId) (g : Given) (store : Store) where
   answered_label (Traps cost text) i = tt
   answered_label b i = absurd i
 
-  asking_frame : (n : ℕ) (a : Act) → IsAsking (at_frame store n a) → IsAsking a
+  pub asking_frame : (n : ℕ) (a : Act) → IsAsking (at_frame store n a) → IsAsking a
   asking_frame n (Asks r) h = tt
   asking_frame n (Awaits m c) h = tt
   asking_frame n (Goes cost st e) h = h
@@ -199,7 +199,7 @@ module _ (head : TypeId → Node TypeId) (g : Given) (store : Store) where
   caught_answered cost weight b None = tt
   caught_answered cost weight b (Some vs) = tt
 
-  asking_handler : (p : Pat) (b : Exp) (a : Act) → IsAsking (at_handler store p b a) → IsAsking a
+  pub asking_handler : (p : Pat) (b : Exp) (a : Act) → IsAsking (at_handler store p b a) → IsAsking a
   asking_handler p b (Asks r) h = tt
   asking_handler p b (Awaits m c) h = tt
   asking_handler p b (Goes cost st e) h = h

@@ -20,7 +20,7 @@ use Rattle.typed_tree.specs.MemberTypes as types
 use Rattle.typed_tree.specs.MemberTypes.{MemberTyped}
 use Rattle.typed_tree.specs.Opening.{Code, Closed, slots_of, shapes_list}
 use Rattle.typed_tree.specs.Patterns.{Pats, NoPat, APat, matches_all}
-use Rattle.typed_tree.specs.Substitution.{Slots, functions, group_of}
+use Rattle.typed_tree.specs.Substitution.{Slots, put, functions, group_of}
 use Rattle.typed_tree.specs.Wants.{Want, Anything, Of, FutureOf, in_function, Below, Serves}
 use Rattle.typed_tree.proofs.Opened.{value_shape}
 use Rattle.mo_meaning.specs.Actions.{call, sent, awaited, given_or}
@@ -31,12 +31,12 @@ use Rattle.mo_meaning.specs.Places.{value_list}
 use Rattle.mo_soundness.specs.Keeps.{closed, HasEach, Keeps, Suits}
 use Rattle.mo_soundness.specs.Lawful.{IsLawful}
 use Rattle.mo_soundness.specs.RunningPatterns.{PatternsTyped}
-use Rattle.mo_soundness.specs.Running.{IsErrorValue, Around, AnswerTypes, Callable, Fits, NameStands, HasValue, HaveValues, Typed, FunctionsTyped, FunctionOf, StoreTyped}
+use Rattle.mo_soundness.specs.Running.{IsErrorValue, Around, AnswerTypes, still, Callable, Fits, NameStands, HasValue, HaveValues, Typed, FunctionsTyped, FunctionOf, StoreTyped}
 use Rattle.mo_soundness.proofs.Cells.{gives}
 use Rattle.mo_soundness.proofs.Found.{At, opened, HasNames, Matched, all_typed}
 use Rattle.mo_soundness.proofs.Less.{has_sub, typed_sub}
-use Rattle.mo_soundness.proofs.More.{longer_self}
-use Rattle.mo_soundness.proofs.Put.{Covers, covers_function, put_typed}
+use Rattle.mo_soundness.proofs.More.{longer_self, knows_still, typed_grow}
+use Rattle.mo_soundness.proofs.Put.{Covers, covers_function, covers_still, put_typed}
 use Rattle.mo_soundness.proofs.Wanted.{reflexive}
 
 -- a built-in function is a local one
@@ -116,20 +116,20 @@ module _ (head : TypeId → Node TypeId) (lawful : IsLawful head) (answers : Ans
 
   -- ---- arguments
 
-  args_sub : (ps qs : List TypeId) (vs : List Value) → Pairwise (IsSubtype head) ps qs → Each (map (λ t. Of t) ps) vs → Each (map (λ t. Of t) qs) vs
+  pub args_sub : (ps qs : List TypeId) (vs : List Value) → Pairwise (IsSubtype head) ps qs → Each (map (λ t. Of t) ps) vs → Each (map (λ t. Of t) qs) vs
   args_sub [] [] vs p h = h
   args_sub [] (q ∷ qs) vs p h = absurd p
   args_sub (t ∷ ps) [] vs p h = absurd p
   args_sub (t ∷ ps) (q ∷ qs) [] p h = absurd h
   args_sub (t ∷ ps) (q ∷ qs) (v ∷ vs) p h = (has_sub head lawful answers kinds v (Of t) (Of q) h.0 p.0, args_sub ps qs vs p.1 h.1)
 
-  names_of : (ws : List (Want TypeId)) (vs : List Value) → Each ws vs → HasNames head answers kinds ws (shapes_list vs)
+  pub names_of : (ws : List (Want TypeId)) (vs : List Value) → Each ws vs → HasNames head answers kinds ws (shapes_list vs)
   names_of [] [] h = tt
   names_of [] (v ∷ vs) h = absurd h
   names_of (w ∷ ws) [] h = absurd h
   names_of (w ∷ ws) (v ∷ vs) h = (subst (Has w) (sym (value_shape v)) h.0, names_of ws vs h.1)
 
-  as_many : (ps : Pats) (ts : List TypeId) (ns : List (Want TypeId)) (vs : List Value) → PatternsTyped head ps ts ns → Each (map (λ t. Of t) ts) vs → are_as_many ps vs ≡ true
+  pub as_many : (ps : Pats) (ts : List TypeId) (ns : List (Want TypeId)) (vs : List Value) → PatternsTyped head ps ts ns → Each (map (λ t. Of t) ts) vs → are_as_many ps vs ≡ true
   as_many NoPat [] ns [] p h = refl
   as_many NoPat [] ns (v ∷ vs) p h = absurd h
   as_many NoPat (t ∷ ts) ns vs p h = absurd p
@@ -137,24 +137,30 @@ module _ (head : TypeId → Node TypeId) (lawful : IsLawful head) (answers : Ans
   as_many (APat q ps) (t ∷ ts) ns [] p h = absurd h
   as_many (APat q ps) (t ∷ ts) ns (v ∷ vs) p h = as_many ps ts p.1 vs p.4 h.1
 
-  covers_both : (ns ws : List (Want TypeId)) (us : List (Shape Code)) (s : Slots) → HasNames head answers kinds ns us → Covers head answers lawful kinds s ws [] → Covers head answers lawful kinds (slots_of us ++ s) (ns ++ ws) []
+  pub covers_both : (ns ws : List (Want TypeId)) (us : List (Shape Code)) (s : Slots) → HasNames head answers kinds ns us → Covers head answers lawful kinds s ws [] → Covers head answers lawful kinds (slots_of us ++ s) (ns ++ ws) []
   covers_both [] ws [] s h c = c
   covers_both [] ws (u ∷ us) s h c = absurd h
   covers_both (n ∷ ns) ws [] s h c = absurd h
   covers_both (n ∷ ns) ws (u ∷ us) s h c = (refl, h.0, covers_both ns ws us s h.1 c)
 
-  entered_keeps : (ls : List TypeId) (store : Store) (group : Functions) (ws : List (Want TypeId)) (weight nodes : ℕ) (body : Exp) (r s : TypeId) (ns : List (Want TypeId)) → Holds store → FunctionsTyped head answers kinds (record { names = ws; labels = [] }) group ws
-      → Typed head answers kinds (record { names = ns ++ map in_function ws; labels = r ∷ [] }) body (Of r) → IsSubtype head r s → (o : Option (List (Shape Code))) → Matched head answers kinds ns o → Keeps head answers kinds ls (Of s) (entered store group weight nodes body o)
+  pub entered_keeps : (ls : List TypeId) (store : Store) (group : Functions) (ws : List (Want TypeId)) (weight nodes : ℕ) (body : Exp) (r s : TypeId) (ns : List (Want TypeId)) → Holds store → FunctionsTyped head answers kinds (record { names = ws; labels = [] }) group ws
+      → Typed head (still answers) kinds (record { names = ns ++ map in_function ws; labels = r ∷ [] }) body (Of r) → IsSubtype head r s → (o : Option (List (Shape Code))) → Matched head answers kinds ns o → Keeps head answers kinds ls (Of s) (entered store group weight nodes body o)
   entered_keeps ls store group ws weight nodes body r s ns st f h b None m = tt
   entered_keeps ls store group ws weight nodes body r s ns st f h b (Some us) m =
       let c = covers_group group ws f (record { names = ws; labels = [] }) group ws 0 f (λ m. ap (slice_get ws) (omega arith)) in (
         kinds,
         longer_self kinds,
         st,
-        (r, put_typed head answers lawful kinds body (slots_of us ++ group_of group) (ns ++ map in_function ws) [] (r ∷ []) (Of r) (covers_both ns (map in_function ws) us (group_of group) m (covers_function head answers lawful kinds (group_of group) ws [] c)) h, b),
+        (
+          r,
+          typed_grow head (still answers) answers (knows_still answers) kinds kinds (longer_self kinds) (closed (r ∷ [])) (put (slots_of us ++ group_of group) body) (Of r)
+              (put_typed head (still answers) lawful kinds body (slots_of us ++ group_of group) (ns ++ map in_function ws) [] (r ∷ []) (Of r)
+              (covers_still head (slots_of us ++ group_of group) (ns ++ map in_function ws) [] answers lawful kinds (covers_both ns (map in_function ws) us (group_of group) m (covers_function head answers lawful kinds (group_of group) ws [] c))) h),
+          b,
+        ),
       )
 
-  counted : (P : Act → Type 0) (b : Bool) (x : Act) → b ≡ true → P x → P (cond b x Stuck)
+  pub counted : (P : Act → Type 0) (b : Bool) (x : Act) → b ≡ true → P x → P (cond b x Stuck)
   counted P true x e p = p
   counted P false x e p = absurd (true≢false (sym e))
 
@@ -212,15 +218,15 @@ module _ (head : TypeId → Node TypeId) (lawful : IsLawful head) (answers : Ans
 
   -- ---- shared functions and futures
 
-  given_keeps : (ls : List TypeId) (w : Want TypeId) (store : Store) (given : Option Given) (asks : Act) → Holds store → ((v : Value) → Suits head answers kinds (Some (Gets v)) asks → Has w v) → ((e : Value) → Suits head answers kinds (Some (Fails e)) asks → IsErrorValue e)
+  given_keeps : (ls : List TypeId) (w : Want TypeId) (store : Store) (given : Option Given) (asks : Act) → Holds store → answers.may_call ≡ true → ((v : Value) → Suits head answers kinds (Some (Gets v)) asks → Has w v) → ((e : Value) → Suits head answers kinds (Some (Fails e)) asks → IsErrorValue e)
       → Keeps head answers kinds ls w asks → Suits head answers kinds given asks → Keeps head answers kinds ls w (given_or store given asks)
-  given_keeps ls w store None asks s g f k i = k
-  given_keeps ls w store (Some (Gets v)) asks s g f k i = gives head lawful answers kinds ls w store v (weighing 1) s (g v i)
-  given_keeps ls w store (Some (Fails e)) asks s g f k i = f e i
+  given_keeps ls w store None asks s may g f k i = k
+  given_keeps ls w store (Some (Gets v)) asks s may g f k i = gives head lawful answers kinds ls w store v (weighing 1) s (g v i)
+  given_keeps ls w store (Some (Fails e)) asks s may g f k i = (f e i, may)
 
-  pub await_keeps : (ls : List TypeId) (store : Store) (given : Option Given) (r : TypeId) (v : Value) → Holds store → Has (FutureOf r) v → Suits head answers kinds given (awaited store None v) → Keeps head answers kinds ls (Of r) (awaited store given v)
-  await_keeps ls store given r (Made (Future call) NoValue) s h i =
-      given_keeps ls (Of r) store given (Awaits 0 call) s (λ v j. by v (answers call) h j) (λ e j. j) (some (answers call) h) i
+  pub await_keeps : (ls : List TypeId) (store : Store) (given : Option Given) (r : TypeId) (v : Value) → Holds store → answers.may_call ≡ true → Has (FutureOf r) v → Suits head answers kinds given (awaited store None v) → Keeps head answers kinds ls (Of r) (awaited store given v)
+  await_keeps ls store given r (Made (Future call) NoValue) s may h i =
+      given_keeps ls (Of r) store given (Awaits 0 call) s may (λ v j. by v (answers.types call) h j) (λ e j. j) (some (answers.types call) h, may) i
     where
       some : (o : Option TypeId) → AtSome o (λ u. Below head u r) → AtSome o (λ t. Unit {0})
       some None h = h
@@ -229,11 +235,11 @@ module _ (head : TypeId → Node TypeId) (lawful : IsLawful head) (answers : Ans
       by : (v : Value) (o : Option TypeId) → AtSome o (λ u. Below head u r) → AtSome o (λ t. Has (Of t) v) → Has (Of r) v
       by v None h j = absurd h
       by v (Some t) h j = has_sub head lawful answers kinds v (Of t) (Of r) j h
-  await_keeps ls store given r v s h i = absurd h
+  await_keeps ls store given r v s may h i = absurd h
 
-  pub send_keeps : (ls : List TypeId) (store : Store) (given : Option Given) (f r : TypeId) (how : Sort) (ps rs : List TypeId) (v : Value) (vs : List Value) → Holds store → (how ≡ sort.Local → ⊥) → head f ≡ node.Func how ps rs → ResultOf head rs r → Has (Of f) v → Each (map (λ t. Of t) ps) vs
+  pub send_keeps : (ls : List TypeId) (store : Store) (given : Option Given) (f r : TypeId) (how : Sort) (ps rs : List TypeId) (v : Value) (vs : List Value) → Holds store → answers.may_call ≡ true → (how ≡ sort.Local → ⊥) → head f ≡ node.Func how ps rs → ResultOf head rs r → Has (Of f) v → Each (map (λ t. Of t) ps) vs
       → Suits head answers kinds given (sent store None ps rs v vs) → Keeps head answers kinds ls (FutureOf r) (sent store given ps rs v vs)
-  send_keeps ls store given f r how ps rs v vs s n q t h i j = by v (opened head answers kinds f (node.Func how ps rs) v q h) j
+  send_keeps ls store given f r how ps rs v vs s may n q t h i j = by v (opened head answers kinds f (node.Func how ps rs) v q h) j
     where
       not_local : {Q : Type 0} (P : Type 0) (x : Sort) → (x ≡ sort.Local → ⊥) → Callable (node.Func x ps rs) P → Q
       not_local P sort.Local n c = absurd (n refl)
@@ -242,7 +248,7 @@ module _ (head : TypeId → Node TypeId) (lawful : IsLawful head) (answers : Ans
 
       by : (v : Value) → At head answers kinds (node.Func how ps rs) f v → Suits head answers kinds given (sent store None ps rs v vs) → Keeps head answers kinds ls (FutureOf r) (sent store given ps rs v vs)
       by (Made (Leaf (part.Method p m)) NoValue) k j =
-          given_keeps ls (FutureOf r) store given (Asks (record { callee = p; method = m; parameters = ps; results = rs; arguments = vs })) s (λ v g. g r t) (λ e g. g) i j
+          given_keeps ls (FutureOf r) store given (Asks (record { callee = p; method = m; parameters = ps; results = rs; arguments = vs })) s may (λ v g. g r t) (λ e g. g) (f, r, how, n, q, t, i, may) j
       by (Made (Leaf (part.Method p m)) (AValue u us)) k j = absurd k.1
       by (Made (Leaf p) inner) k j = absurd k.0.1
       by (Made Array inner) (inl e, k) j = absurd e

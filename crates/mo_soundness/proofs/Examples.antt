@@ -1,5 +1,5 @@
 -- The small expression is typed, and the graph is lawful.
-use Rattle.std.proofs.Common.{◌≡◌, inl, ℕ, zero, suc, [], ◌∷◌, None, refl, arith, pos}
+use Rattle.std.proofs.Common.{◌≡◌, inl, ℕ, zero, suc, [], ◌∷◌, refl, arith, pos}
 use Rattle.std.proofs.lemmas.Int.{ints}
 use Rattle.mo_num.specs.Kinds.{InRange}
 use Rattle.mo_num.specs.declared.kind.Kind.TheVariants as kind
@@ -10,7 +10,7 @@ use Rattle.mo_types.specs.Sub.{IsSubtype}
 use Rattle.subtype_laws.specs.Labels.{OwnLabels}
 use Rattle.typed_tree.specs.Wants.{Of}
 use Rattle.mo_soundness.specs.Circle.{at}
-use Rattle.mo_soundness.specs.Examples.{basic_head, nat, sum}
+use Rattle.mo_soundness.specs.Examples.{basic_head, nat, no_calls, sum}
 use Rattle.mo_soundness.specs.Keeps.{closed}
 use Rattle.mo_soundness.specs.Lawful.{IsLawful}
 use Rattle.mo_soundness.specs.Running.{Typed}
@@ -46,7 +46,7 @@ one_nat = (omega (arith, ints), omega (arith, ints))
 nat_self : IsSubtype basic_head nat nat
 nat_self = reflexive basic_head basic_lawful nat
 
-pub sum_typed : Typed basic_head (λ n. None) [] (closed []) sum (Of nat)
+pub sum_typed : Typed basic_head no_calls [] (closed []) sum (Of nat)
 sum_typed = (
   Of nat,
   ((tt, one_nat), tt),

@@ -44,7 +44,7 @@ module _ (head : TypeId → Node TypeId) (lawful : IsLawful head) (answers : Ans
     has_sub (Function group which) (Of t) (Of u) h s = callable_up head lawful t u _ _ s (λ p. (p.0, p.1, p.2, p.3, transitive head lawful p.1 t u p.4 s)) h
     has_sub (BuiltIn m holds) (Of t) (Of u) h s = callable_up head lawful t u _ _ s (λ p. (p.0, p.1, p.2, p.3, transitive head lawful p.1 t u p.4 s)) h
     has_sub (Made (Cell at) NoValue) (CellOf t) (CellOf u) h s = cell_sub (slice_get kinds at) t u h s
-    has_sub (Made (Future call) NoValue) (FutureOf t) (FutureOf u) h s = future_sub (answers call) t u h s
+    has_sub (Made (Future call) NoValue) (FutureOf t) (FutureOf u) h s = future_sub (answers.types call) t u h s
     has_sub (Made (Leaf part.Null) NoValue) (KeptOf t) (KeptOf u) h s = tt
     has_sub (Made Present (AValue v vs)) (KeptOf t) (KeptOf u) h s = (has_sub v (Of t) (Of u) h.0 s.0, h.1)
     has_sub v (Generic vs t) u h s = absurd h

@@ -16,4 +16,5 @@ pub mod Graphs
 pub mod Circle
 pub mod Reached
 pub mod Answered
+pub mod Elsewhere
 pub mod Examples

@@ -76,16 +76,16 @@ module _ (head : TypeId → Node TypeId) (lawful : IsLawful head) (answers : Ans
   goes_keeps ls w store e n s h = (kinds, longer_self kinds, s, h)
 
   -- a value goes on so, and anything else so, at both reductions
-  either : (P : Act → Act → Type 0) (e : Exp) (f g : Value → Act) (a b : Act) → ((v : Value) → e ≡ Val v → P (f v) (g v)) → (IsNoValue e → P a b) → P (value_or e f a) (value_or e g b)
+  pub either : (P : Act → Act → Type 0) (e : Exp) (f g : Value → Act) (a b : Act) → ((v : Value) → e ≡ Val v → P (f v) (g v)) → (IsNoValue e → P a b) → P (value_or e f a) (value_or e g b)
   either P (Val v) f g a b h i = h v refl
   either P _ f g a b h i = i tt
 
-  value_typed : (ls : List TypeId) (e : Exp) (v : Value) (w : Want TypeId) → e ≡ Val v → T ls e w → Has w v
+  pub value_typed : (ls : List TypeId) (e : Exp) (v : Value) (w : Want TypeId) → e ≡ Val v → T ls e w → Has w v
   value_typed ls e v w q h = subst (λ e. T ls e w) q h
 
   -- ---- what is given goes inward
 
-  suits_inside : (given : Option Given) (f : Exp → Exp) (a : Act) → S given (inside f a) → S given a
+  pub suits_inside : (given : Option Given) (f : Exp → Exp) (a : Act) → S given (inside f a) → S given a
   suits_inside None f a s = tt
   suits_inside (Some (Gets v)) f (Asks r) s = s
   suits_inside (Some (Fails e)) f (Asks r) s = s
@@ -109,7 +109,7 @@ module _ (head : TypeId → Node TypeId) (lawful : IsLawful head) (answers : Ans
   suits_handler (Some (Fails e)) store p b (Awaits n c) s = s
   suits_handler (Some g) store p b a s = tt
 
-  suits_frame : (given : Option Given) (store : Store) (n : ℕ) (a : Act) → S given (at_frame store n a) → S given a
+  pub suits_frame : (given : Option Given) (store : Store) (n : ℕ) (a : Act) → S given (at_frame store n a) → S given a
   suits_frame None store n a s = tt
   suits_frame (Some (Gets v)) store n (Asks r) s = s
   suits_frame (Some (Fails e)) store n (Asks r) s = s
@@ -119,13 +119,13 @@ module _ (head : TypeId → Node TypeId) (lawful : IsLawful head) (answers : Ans
 
   -- ---- matches
 
-  covers_names : (ns : List (Want TypeId)) (vs : List (Shape Code)) → HasNames head answers kinds ns vs → Covers head answers lawful kinds (slots_of vs) (ns ++ []) []
+  pub covers_names : (ns : List (Want TypeId)) (vs : List (Shape Code)) → HasNames head answers kinds ns vs → Covers head answers lawful kinds (slots_of vs) (ns ++ []) []
   covers_names [] [] h = refl
   covers_names [] (v ∷ vs) h = absurd h
   covers_names (w ∷ ns) [] h = absurd h
   covers_names (w ∷ ns) (v ∷ vs) h = (refl, h.0, covers_names ns vs h.1)
 
-  match_keeps : (ls : List TypeId) (w : Want TypeId) (store : Store) (cost : Cost) (ns : List (Want TypeId)) (e : Exp) (o : Option (List (Shape Code))) (a : Act) → Holds store → Matched head answers kinds ns o → Typed head answers kinds (with_names ns (closed ls)) e w → K ls w a
+  pub match_keeps : (ls : List TypeId) (w : Want TypeId) (store : Store) (cost : Cost) (ns : List (Want TypeId)) (e : Exp) (o : Option (List (Shape Code))) (a : Act) → Holds store → Matched head answers kinds ns o → Typed head answers kinds (with_names ns (closed ls)) e w → K ls w a
       → K ls w (on_match o (λ s. Goes cost store (put s e)) a)
   match_keeps ls w store cost ns e None a s m h i = i
   match_keeps ls w store cost ns e (Some vs) a s m h i = (kinds, longer_self kinds, s, put_typed head answers lawful kinds e (slots_of vs) (ns ++ []) [] ls w (covers_names ns vs m) h)
@@ -178,7 +178,7 @@ module _ (head : TypeId → Node TypeId) (lawful : IsLawful head) (answers : Ans
   handler_keeps : (ls : List TypeId) (w : Want TypeId) (store : Store) (t : TypeId) (ns : List (Want TypeId)) (p : Pat) (b : Exp) → Holds store → IsError head t → PatternTyped head p t ns → Typed head answers kinds (with_names ns (closed ls)) b w
       → Grows ls (λ e. Try e p b) w w → (a : Act) → K ls w a → K ls w (at_handler store p b a)
   handler_keeps ls w store t ns p b s q h i k (Throws cost v) j =
-      match_keeps ls w store (weighing (cost.weight + trying p v)) ns b (matches p (shape_of v)) _ s (patterns head answers kinds lawful p t ns v h (error_fits head answers kinds t v q j)) i tt
+      match_keeps ls w store (weighing (cost.weight + trying p v)) ns b (matches p (shape_of v)) _ s (patterns head answers kinds lawful p t ns v h (error_fits head answers kinds t v q j.0)) i tt
   handler_keeps ls w store t ns p b s q h i k (Goes cost after e) j = inside_keeps ls (λ e. Try e p b) w w k (Goes cost after e) j
   handler_keeps ls w store t ns p b s q h i k (Prints cost text e) j = inside_keeps ls (λ e. Try e p b) w w k (Prints cost text e) j
   handler_keeps ls w store t ns p b s q h i k (Asks r) j = j
@@ -193,7 +193,7 @@ module _ (head : TypeId → Node TypeId) (lawful : IsLawful head) (answers : Ans
   one_more v w ws vs h None f e q = absurd (let r : None ≡ Some vs = q in cc)
   one_more v w ws vs h (Some us) f e q = subst (HasEach head answers kinds (w ∷ ws)) (let same : v ∷ us ≡ vs = cc in same) (h, f us e)
 
-  values_each : (ls : List TypeId) (es : Exps) (ws : List (Want TypeId)) (vs : List Value) → EachTyped head answers kinds (closed ls) es ws → all_values es ≡ Some vs → HasEach head answers kinds ws vs
+  pub values_each : (ls : List TypeId) (es : Exps) (ws : List (Want TypeId)) (vs : List Value) → EachTyped head answers kinds (closed ls) es ws → all_values es ≡ Some vs → HasEach head answers kinds ws vs
   values_each ls NoExp [] vs h q = subst (HasEach head answers kinds []) (let same : [] ≡ vs = cc in same) tt
   values_each ls NoExp (w ∷ ws) vs h q = absurd h
   values_each ls (AnExp e es) [] vs h q = absurd h
@@ -206,7 +206,7 @@ module _ (head : TypeId → Node TypeId) (lawful : IsLawful head) (answers : Ans
 
   -- ---- the functions of a group
 
-  functions_labels : (c : Around) (fns : Functions) (ws : List (Want TypeId)) → FunctionsTyped head answers kinds c fns ws → FunctionsTyped head answers kinds (record { names = c.names; labels = [] }) fns ws
+  pub functions_labels : (c : Around) (fns : Functions) (ws : List (Want TypeId)) → FunctionsTyped head answers kinds c fns ws → FunctionsTyped head answers kinds (record { names = c.names; labels = [] }) fns ws
   functions_labels c NoFunction [] h = tt
   functions_labels c NoFunction (w ∷ ws) h = absurd h
   functions_labels c (AFunction how n ps body fns) [] h = absurd h
@@ -243,7 +243,7 @@ module _ (head : TypeId → Node TypeId) (lawful : IsLawful head) (answers : Ans
       where
         by : (vs : List Value) → HasEach head answers kinds (Of j.0 ∷ []) vs → K ls w (act head given store action.Throw vs)
         by [] k = absurd k
-        by (v ∷ []) k = error_of head answers kinds j.0 v j.1 k.0
+        by (v ∷ []) k = (error_of head answers kinds j.0 v j.1 k.0, j.3)
         by (v ∷ u ∷ us) k = absurd k.1
     does_keep ls w a ws vs (inr j) h i = absurd j
 
@@ -299,7 +299,7 @@ module _ (head : TypeId → Node TypeId) (lawful : IsLawful head) (answers : Ans
           do_keeps ls w a h.0 h.1 es h.2 (all_values es) refl
           (λ q j. operand_keeps es h.0 (Do a) ls w h.2 (λ more es' g k. inl (h.0, h.1, k)) q j) i
       keeps (Do action.Throw (AnExp (Val v) NoExp)) ls w n (inr (inl h)) i = h
-      keeps (Do a es) ls w n (inr (inl h)) i = absurd h
+      keeps (Do a es) ls w n (inr (inl h)) i = absurd h.0
       keeps (Do (action.Operate op.Element) (AnExp (Val (Made Array NoValue)) (AnExp (Val v) NoExp))) ls w n (inr (inr h)) i = empty_keeps ls w h.1.0 v h.1.1 h.1.2.0
       keeps (Do (action.Operate op.Element) (AnExp (Val (Made Array NoValue)) (AnExp e NoExp))) ls w n (inr (inr h)) i =
           inside_keeps ls (λ e. Do (action.Operate op.Element) (AnExp (Val (Made Array NoValue)) (AnExp e NoExp))) (Of h.1.0) w (λ more e g j. inr (inr (tt, (h.1.0, h.1.1, (j, tt)))))

@@ -262,7 +262,7 @@ module _ (head : TypeId → Node TypeId) (lawful : IsLawful head) where
     root_up (Error c m) n u node.Error y f r = subst (λ y. Root y (Error c m) × Inside (Error c m) n node.Error y) (sym f) (r, inr tt)
     root_up (Error c m) n u x y f r = absurd (true≢false (sym r.0))
     root_up (Cell at) n u x y f r = absurd r
-    root_up (Future call) n u (node.Async a) y f r = subst (λ y. Root y (Future call) × Inside (Future call) n (node.Async a) y) (sym f.1) (later a f.0 f.2 (answers call) r, inr tt)
+    root_up (Future call) n u (node.Async a) y f r = subst (λ y. Root y (Future call) × Inside (Future call) n (node.Async a) y) (sym f.1) (later a f.0 f.2 (answers.types call) r, inr tt)
     root_up (Future call) n u x y f r = absurd r
 
     no_cell : (x : Node TypeId) (h : Head) → Root x h → IsNoCell h

@@ -1,5 +1,5 @@
 -- A small expression over a small graph of types: `let x = 1; x + 1` (Motoko language manual, sections "Let declaration" and "Binary operators").
-use Rattle.std.specs.Prelude.{List, [], ◌∷◌, Option, Some, None}
+use Rattle.std.specs.Prelude.{List, [], ◌∷◌, false, Option, Some, None}
 use Rattle.mo_num.specs.declared.kind.Kind.TheVariants as kind
 use Rattle.mo_num.specs.declared.operator.Operator.TheVariants as operator
 use Rattle.mo_types.specs.declared.node.Node.{Node}
@@ -15,6 +15,7 @@ use Rattle.mo_meaning.specs.Members.{number}
 use Rattle.mo_meaning.specs.Places.{two}
 use Rattle.mo_meaning.specs.Reduce.{reduce}
 use Rattle.mo_soundness.specs.Circle.{at}
+use Rattle.mo_soundness.specs.Running.{AnswerTypes}
 
 -- Bool, () and Nat
 abbrev pub basics : List Slot
@@ -25,6 +26,10 @@ basic_head = head_at basics
 
 abbrev pub nat : TypeId
 nat = at 2
+
+-- no calls are under way, and none may be made
+abbrev pub no_calls : AnswerTypes
+no_calls = record { types = λ n. None; may_call = false }
 
 abbrev pub sum : Exp
 sum = let_in Bind (Val (number 1)) (Do (action.Operate (op.Arithmetic operator.Add kind.Nat)) (two (Name 0) (Val (number 1))))

@@ -1,7 +1,7 @@
 -- When an expression that runs is typed: the rules of typing with values in the place of names, with the types of the cells that there
 -- are, and with those of the answers to the calls under way (Motoko language manual, sections "Types", "Expressions" and "Declarations").
--- Where one may wait is no matter of what an expression comes to, so the rules on it are left out.
-use Rattle.std.specs.Prelude.{◌≡◌, ◌⊎◌, ℕ, List, [], ◌∷◌, ◌++◌, map, true, Option, Some, slice_get}
+-- Where one may wait and throw is no matter of whether it is stuck. So of the rules on it there is left whether calls may be made at all.
+use Rattle.std.specs.Prelude.{◌≡◌, ◌⊎◌, ℕ, List, [], ◌∷◌, ◌++◌, map, Bool, true, false, Option, Some, slice_get}
 use Rattle.std.specs.Str.{is_utf8}
 use Rattle.mo_num.specs.declared.kind.Kind.TheVariants as kind
 use Rattle.mo_types.specs.declared.datum.Datum.TheVariants as part
@@ -46,9 +46,20 @@ in_body ns r c = record { names = ns ++ map in_function c.names; labels = r ∷ 
 abbrev pub context : Sort → Around → Context
 context s c = record { names = c.names; labels = c.labels; body = s; parameters = [] }
 
--- the types of the answers to calls, by their numbers
-abbrev pub AnswerTypes : Type 0
-AnswerTypes = ℕ → Option TypeId
+-- what is known of outgoing calls: the types of the answers to those that were made, by their numbers, and whether further ones may be made and errors thrown
+pub record AnswerTypes : Type 0 where
+  pub types : ℕ → Option TypeId
+  pub may_call : Bool
+
+-- the same, where no calls may be made
+abbrev pub still : AnswerTypes → AnswerTypes
+still answers = record { types = answers.types; may_call = false }
+
+-- where no calls may be made, all is as in the body of a function that is no shared one
+abbrev pub in_sort : Sort → Bool → Sort
+in_sort sort.Local b = sort.Local
+in_sort s true = s
+in_sort s false = sort.Local
 
 -- an error that a program can have: its message is text, and its code one of 32 bits
 abbrev pub IsErrorValue : Value → Type 0
@@ -74,7 +85,7 @@ Callable _ p = ⊥
 module _ (head : TypeId → Node TypeId) (answers : AnswerTypes) where
   -- the future of a call gives a value of a type above that of the answer
   abbrev pub Answers : ℕ → TypeId → Type 0
-  Answers call t = AtSome (answers call) (λ u. Below head u t)
+  Answers call t = AtSome (answers.types call) (λ u. Below head u t)
 
   -- no function, and no value of a type parameter
   abbrev pub plain : Judgements TypeId Code
@@ -90,86 +101,87 @@ module _ (head : TypeId → Node TypeId) (answers : AnswerTypes) where
   abbrev pub NameStands : Sort → List TypeId → TypeId → Want TypeId → Type 0
   NameStands how ps r w = (w ≡ Anything) ⊎ ((t : TypeId) × (head t ≡ member.Function ps r) × (w ≡ Of t))
 
-  -- a jump or a thrown error stands in the place of an expression that gives anything
+  -- A jump or a thrown error stands in the place of an expression that gives anything. Errors are thrown where calls may be made.
   abbrev pub Jumps : Around → Action → List (Want TypeId) → Type 0
   Jumps c (action.Break l) ws = (t : TypeId) × (slice_get c.labels l ≡ Some t) × (ws ≡ Of t ∷ [])
-  Jumps c action.Throw ws = (t : TypeId) × IsError head t × (ws ≡ Of t ∷ [])
+  Jumps c action.Throw ws = (t : TypeId) × IsError head t × (ws ≡ Of t ∷ []) × (answers.may_call ≡ true)
   Jumps c _ ws = ⊥
 
-  -- what an action takes and gives, in the body of a function that is called in any way
+  -- what an action takes and gives, in the body of a function that is called in any way, or in no shared one
   abbrev pub Does : Around → Action → List (Want TypeId) → Want TypeId → Type 0
-  Does c a ws w = ((s : Sort) × (g : Want TypeId) × ActionTyped head (context s c) a ws g × Serves head g w) ⊎ Jumps c a ws
+  Does c a ws w = ((s : Sort) × (g : Want TypeId) × ActionTyped head (context (in_sort s answers.may_call) c) a ws g × Serves head g w) ⊎ Jumps c a ws
 
-  module _ (kinds : List TypeId) where
-    abbrev mutual
-      -- kinds gives each cell the type of its contents
-      pub HasValue : Want TypeId → Value → Type 0
-      HasValue Anything v = Unit {0}
-      HasValue (Of t) (Made h inner) = Fits (head t) h × HaveValues (wants h (head t) (count (shapes_of inner))) inner
-      -- a function has its own type and those above, and the functions of its group are typed
-      HasValue (Of t) (Function group which) =
-          Callable (head t) ((ws : List (Want TypeId)) × (f : TypeId) × FunctionsTyped (record { names = ws; labels = [] }) group ws × (slice_get ws which ≡ Some (Of f)) × Below head f t)
-      HasValue (Of t) (BuiltIn m holds) = Callable (head t) ((ws : List (Want TypeId)) × (f : TypeId) × MemberTyped head m ws (head f) × HaveValues ws holds × Below head f t)
-      HasValue (CellOf t) (Made (Cell at) NoValue) = AtSome (slice_get kinds at) (λ u. Equal head t u)
-      HasValue (FutureOf t) (Made (Future call) NoValue) = Answers call t
-      HasValue (KeptOf t) (Made (Leaf part.Null) NoValue) = Unit {0}
-      HasValue (KeptOf t) (Made Present inner) = HaveValues (Of t ∷ []) inner
-      HasValue _ _ = ⊥
+module _ (head : TypeId → Node TypeId) where
+  abbrev mutual
+    -- kinds gives each cell the type of its contents
+    pub HasValue : AnswerTypes → List TypeId → Want TypeId → Value → Type 0
+    HasValue answers kinds Anything v = Unit {0}
+    HasValue answers kinds (Of t) (Made h inner) = Fits head answers (head t) h × HaveValues answers kinds (wants h (head t) (count (shapes_of inner))) inner
+    -- a function has its own type and those above, and the functions of its group are typed
+    HasValue answers kinds (Of t) (Function group which) =
+        Callable (head t) ((ws : List (Want TypeId)) × (f : TypeId) × FunctionsTyped answers kinds (record { names = ws; labels = [] }) group ws × (slice_get ws which ≡ Some (Of f)) × Below head f t)
+    HasValue answers kinds (Of t) (BuiltIn m holds) = Callable (head t) ((ws : List (Want TypeId)) × (f : TypeId) × MemberTyped head m ws (head f) × HaveValues answers kinds ws holds × Below head f t)
+    HasValue answers kinds (CellOf t) (Made (Cell at) NoValue) = AtSome (slice_get kinds at) (λ u. Equal head t u)
+    HasValue answers kinds (FutureOf t) (Made (Future call) NoValue) = Answers head answers call t
+    HasValue answers kinds (KeptOf t) (Made (Leaf part.Null) NoValue) = Unit {0}
+    HasValue answers kinds (KeptOf t) (Made Present inner) = HaveValues answers kinds (Of t ∷ []) inner
+    HasValue answers kinds _ _ = ⊥
 
-      pub HaveValues : List (Want TypeId) → Values → Type 0
-      HaveValues [] NoValue = Unit {0}
-      HaveValues (w ∷ ws) (AValue v vs) = HasValue w v × HaveValues ws vs
-      HaveValues _ _ = ⊥
+    pub HaveValues : AnswerTypes → List TypeId → List (Want TypeId) → Values → Type 0
+    HaveValues answers kinds [] NoValue = Unit {0}
+    HaveValues answers kinds (w ∷ ws) (AValue v vs) = HasValue answers kinds w v × HaveValues answers kinds ws vs
+    HaveValues answers kinds _ _ = ⊥
 
-      pub Typed : Around → Exp → Want TypeId → Type 0
-      Typed c (Val v) w = HasValue w v
-      Typed c (Name x) w = (a : Want TypeId) × (slice_get c.names x ≡ Some a) × Serves head a w
-      Typed c (Do a es) w = ((ws : List (Want TypeId)) × Does c a ws w × EachTyped c es ws) ⊎ IsThrown a es ⊎ (IsElement a × OfEmpty c es)
-      Typed c (If e a b) w = (t : TypeId) × IsBool head t × Typed c e (Of t) × Typed c a w × Typed c b w
-      Typed c (Switch e cases) w = (a : Want TypeId) × Typed c e a × CasesTyped c cases a w
-      Typed c (Group fns b) w = (ws : List (Want TypeId)) × FunctionsTyped (with_names ws c) fns ws × Typed (with_names ws c) b w
-      Typed c (Frame n e) w = (t : TypeId) × Typed (record { names = c.names; labels = t ∷ [] }) e (Of t) × Serves head (Of t) w
-      Typed c (Label e) w = (t : TypeId) × Typed (with_label t c) e (Of t) × Serves head (Of t) w
-      Typed c (While e b) w = (t u : TypeId) × IsBool head t × IsUnit head u × Typed c e (Of t) × Typed c b (Of u) × Serves head (Of u) w
-      Typed c (Repeat b e) w = (t u : TypeId) × IsBool head t × IsUnit head u × Typed c e (Of t) × Typed c b (Of u) × Serves head (Of u) w
-      Typed c (For p e b) w =
-          (i t u : TypeId) × (ns : List (Want TypeId)) × GivesElements head i t × IsUnit head u × Typed c e (Of i) × PatternTyped head p t ns × Typed (with_names ns c) b (Of u) × Serves head (Of u) w
-      Typed c (Try e p b) w = (t : TypeId) × (ns : List (Want TypeId)) × IsError head t × Typed c e w × PatternTyped head p t ns × Typed (with_names ns c) b w
-      Typed c (Update o e f) w =
-          (t u r : TypeId) × (a b : Want TypeId) × OperationTyped head o (a ∷ b ∷ []) (Of r) × Typed c e (CellOf t) × Serves head (Of t) a × Typed c f b × Below head r t × IsUnit head u × Serves head (Of u) w
+    pub Typed : AnswerTypes → List TypeId → Around → Exp → Want TypeId → Type 0
+    Typed answers kinds c (Val v) w = HasValue answers kinds w v
+    Typed answers kinds c (Name x) w = (a : Want TypeId) × (slice_get c.names x ≡ Some a) × Serves head a w
+    Typed answers kinds c (Do a es) w = ((ws : List (Want TypeId)) × Does head answers c a ws w × EachTyped answers kinds c es ws) ⊎ (IsThrown a es × (answers.may_call ≡ true)) ⊎ (IsElement a × OfEmpty answers kinds c es)
+    Typed answers kinds c (If e a b) w = (t : TypeId) × IsBool head t × Typed answers kinds c e (Of t) × Typed answers kinds c a w × Typed answers kinds c b w
+    Typed answers kinds c (Switch e cases) w = (a : Want TypeId) × Typed answers kinds c e a × CasesTyped answers kinds c cases a w
+    Typed answers kinds c (Group fns b) w = (ws : List (Want TypeId)) × FunctionsTyped answers kinds (with_names ws c) fns ws × Typed answers kinds (with_names ws c) b w
+    Typed answers kinds c (Frame n e) w = (t : TypeId) × Typed answers kinds (record { names = c.names; labels = t ∷ [] }) e (Of t) × Serves head (Of t) w
+    Typed answers kinds c (Label e) w = (t : TypeId) × Typed answers kinds (with_label t c) e (Of t) × Serves head (Of t) w
+    Typed answers kinds c (While e b) w = (t u : TypeId) × IsBool head t × IsUnit head u × Typed answers kinds c e (Of t) × Typed answers kinds c b (Of u) × Serves head (Of u) w
+    Typed answers kinds c (Repeat b e) w = (t u : TypeId) × IsBool head t × IsUnit head u × Typed answers kinds c e (Of t) × Typed answers kinds c b (Of u) × Serves head (Of u) w
+    Typed answers kinds c (For p e b) w =
+        (i t u : TypeId) × (ns : List (Want TypeId)) × GivesElements head i t × IsUnit head u × Typed answers kinds c e (Of i) × PatternTyped head p t ns × Typed answers kinds (with_names ns c) b (Of u) × Serves head (Of u) w
+    Typed answers kinds c (Try e p b) w = (t : TypeId) × (ns : List (Want TypeId)) × IsError head t × Typed answers kinds c e w × PatternTyped head p t ns × Typed answers kinds (with_names ns c) b w
+    Typed answers kinds c (Update o e f) w =
+        (t u r : TypeId) × (a b : Want TypeId) × OperationTyped head o (a ∷ b ∷ []) (Of r) × Typed answers kinds c e (CellOf t) × Serves head (Of t) a × Typed answers kinds c f b × Below head r t × IsUnit head u × Serves head (Of u) w
 
-      pub EachTyped : Around → Exps → List (Want TypeId) → Type 0
-      EachTyped c NoExp [] = Unit {0}
-      EachTyped c (AnExp e es) (w ∷ ws) = Typed c e w × EachTyped c es ws
-      EachTyped c _ _ = ⊥
+    pub EachTyped : AnswerTypes → List TypeId → Around → Exps → List (Want TypeId) → Type 0
+    EachTyped answers kinds c NoExp [] = Unit {0}
+    EachTyped answers kinds c (AnExp e es) (w ∷ ws) = Typed answers kinds c e w × EachTyped answers kinds c es ws
+    EachTyped answers kinds c _ _ = ⊥
 
-      -- an empty array, of values or of cells, and an index
-      pub OfEmpty : Around → Exps → Type 0
-      OfEmpty c (AnExp (Val (Made Array NoValue)) es) = (k : TypeId) × IsNumber head kind.Nat k × EachTyped c es (Of k ∷ [])
-      OfEmpty c _ = ⊥
+    -- an empty array, of values or of cells, and an index
+    pub OfEmpty : AnswerTypes → List TypeId → Around → Exps → Type 0
+    OfEmpty answers kinds c (AnExp (Val (Made Array NoValue)) es) = (k : TypeId) × IsNumber head kind.Nat k × EachTyped answers kinds c es (Of k ∷ [])
+    OfEmpty answers kinds c _ = ⊥
 
-      -- on what is met at the first, the cases give the second
-      pub CasesTyped : Around → Cases → Want TypeId → Want TypeId → Type 0
-      CasesTyped c NoCase a w = Unit {0}
-      CasesTyped c (ACase p e cases) a w = (ns : List (Want TypeId)) × BindsAt head p a ns × Typed (with_names ns c) e w × CasesTyped c cases a w
+    -- on what is met at the first, the cases give the second
+    pub CasesTyped : AnswerTypes → List TypeId → Around → Cases → Want TypeId → Want TypeId → Type 0
+    CasesTyped answers kinds c NoCase a w = Unit {0}
+    CasesTyped answers kinds c (ACase p e cases) a w = (ns : List (Want TypeId)) × BindsAt head p a ns × Typed answers kinds (with_names ns c) e w × CasesTyped answers kinds c cases a w
 
-      -- the functions of a group, whose names are in scope
-      pub FunctionsTyped : Around → Functions → List (Want TypeId) → Type 0
-      FunctionsTyped c NoFunction [] = Unit {0}
-      FunctionsTyped c (AFunction how n ps body fns) (w ∷ ws) =
-          ((params : List TypeId) × (r : TypeId) × (ns : List (Want TypeId)) × NameStands how params r w × PatternsTyped head ps params ns × Typed (in_body ns r c) body (Of r)) × FunctionsTyped c fns ws
-      FunctionsTyped c _ _ = ⊥
+    -- The functions of a group, whose names are in scope. None of them is a shared one, so no calls may be made in their bodies.
+    pub FunctionsTyped : AnswerTypes → List TypeId → Around → Functions → List (Want TypeId) → Type 0
+    FunctionsTyped answers kinds c NoFunction [] = Unit {0}
+    FunctionsTyped answers kinds c (AFunction how n ps body fns) (w ∷ ws) =
+        ((params : List TypeId) × (r : TypeId) × (ns : List (Want TypeId)) × NameStands head answers how params r w × PatternsTyped head ps params ns × Typed (still answers) kinds (in_body ns r c) body (Of r)) × FunctionsTyped answers kinds c fns ws
+    FunctionsTyped answers kinds c _ _ = ⊥
 
+  module _ (answers : AnswerTypes) (kinds : List TypeId) where
     -- what is known of the code of functions
     abbrev pub FunctionOf : Code → TypeId → Type 0
-    FunctionOf (Closed group which) t = (ws : List (Want TypeId)) × (f : TypeId) × FunctionsTyped (record { names = ws; labels = [] }) group ws × (slice_get ws which ≡ Some (Of f)) × Below head f t
-    FunctionOf (BuiltInCode m holds) t = (ws : List (Want TypeId)) × (f : TypeId) × MemberTyped head m ws (head f) × HaveValues ws holds × Below head f t
+    FunctionOf (Closed group which) t = (ws : List (Want TypeId)) × (f : TypeId) × FunctionsTyped answers kinds (record { names = ws; labels = [] }) group ws × (slice_get ws which ≡ Some (Of f)) × Below head f t
+    FunctionOf (BuiltInCode m holds) t = (ws : List (Want TypeId)) × (f : TypeId) × MemberTyped head m ws (head f) × HaveValues answers kinds ws holds × Below head f t
 
     abbrev pub known : Judgements TypeId Code
-    known = record { FunctionOf = λ f t. FunctionOf f t; AnswerOf = λ call t. Answers call t; ParameterOf = λ v s. ⊥ }
+    known = record { FunctionOf = λ f t. FunctionOf f t; AnswerOf = λ call t. Answers head answers call t; ParameterOf = λ v s. ⊥ }
 
     -- a store whose cells have contents of these types
     abbrev pub StoreTyped : List Value → List TypeId → Type 0
     StoreTyped [] [] = Unit {0}
-    StoreTyped (v ∷ vs) (t ∷ ts) = HasValue (Of t) v × StoreTyped vs ts
+    StoreTyped (v ∷ vs) (t ∷ ts) = HasValue answers kinds (Of t) v × StoreTyped vs ts
     StoreTyped _ _ = ⊥

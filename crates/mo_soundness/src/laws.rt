@@ -13,12 +13,12 @@ ghost use Rattle.typed_tree.specs.Opening.{shape_of};
 ghost use Rattle.typed_tree.specs.OperationTypes.{IsBool};
 ghost use Rattle.typed_tree.specs.Types.{AreLawful};
 ghost use Rattle.typed_tree.specs.Wants.{Of, Serves, Want};
-ghost use Rattle.mo_meaning.specs.Acts.{Given, Leaves, Store, Stuck};
+ghost use Rattle.mo_meaning.specs.Acts.{Awaits, Given, Leaves, Store, Stuck};
 ghost use Rattle.mo_meaning.specs.Members.{number};
 ghost use Rattle.mo_meaning.specs.Reduce.{reduce};
 ghost use Rattle.mo_soundness.specs.Answered.{IsAnswered, IsAsking};
 ghost use Rattle.mo_soundness.specs.Circle.{at, circle, circle_head};
-ghost use Rattle.mo_soundness.specs.Examples.{basic_head, nat, reached_twice, sum};
+ghost use Rattle.mo_soundness.specs.Examples.{basic_head, nat, no_calls, reached_twice, sum};
 ghost use Rattle.mo_soundness.specs.Keeps.{IsLonger, IsNoValue, Keeps, Suits, closed};
 ghost use Rattle.mo_soundness.specs.Lawful.{IsLawful};
 ghost use Rattle.mo_soundness.specs.Reached.{Reaches};
@@ -38,8 +38,8 @@ pub fn types_rise()
 
 /// A closed typed expression that is no value is never stuck, over a store that is typed. What it is reduced to gives what it
 /// gave, and the store stays typed: the cells that there were keep their types. A jump brings a value of its label's type, a
-/// call of a shared function has arguments of its types, and what is thrown is an error. So it is too where a call or an
-/// `await` is given what it waits for, if that fits.
+/// call is one of a shared function, with arguments of its types, and what is thrown is an error. So it is too where a call or
+/// an `await` is given what it waits for, if that fits.
 pub fn reductions_keep_types()
     ensures { (head : TypeId → Node TypeId) → IsLawful head → (answers : AnswerTypes) (kinds : List TypeId) (labels : List TypeId) (w : Want TypeId) (given : Option Given) (store : Store) (e : Exp) → IsNoValue e → StoreTyped head answers kinds store kinds → Typed head answers kinds (closed labels) e w → Suits head answers kinds given (reduce head None store e) → Keeps head answers kinds labels w (reduce head given store e) }
 {}
@@ -66,10 +66,15 @@ pub fn what_asks_is_answered()
     ensures { (head : TypeId → Node TypeId) (given : Given) (store : Store) (e : Exp) → IsAsking (reduce head None store e) → IsAnswered (reduce head (Some given) store e) }
 {}
 
+/// An expression that stands at an `await` does so over each store, with the same call and the same nodes.
+pub fn what_waits_waits_over_each_store()
+    ensures { (head : TypeId → Node TypeId) (store : Store) (other : Store) (e : Exp) (nodes : ℕ) (call : ℕ) → reduce head None store e ≡ Awaits nodes call → reduce head None other e ≡ Awaits nodes call }
+{}
+
 /// `let x = 1; x + 1` is typed over a graph of Bool, () and Nat, and its second reduction comes to 2.
 pub fn small_expressions_are_typed()
     ensures lawful { IsLawful basic_head }
-    ensures typed { Typed basic_head (λ n. None) [] (closed []) sum (Of nat) }
+    ensures typed { Typed basic_head no_calls [] (closed []) sum (Of nat) }
     ensures reduced { reached_twice ≡ Some (Val (number 2)) }
 {}
 
