@@ -1,0 +1,131 @@
+-- Reductions of the start behind an upgrade keep what fits: of the declarations, of the hook, and of what the actor exports.
+use Rattle.std.proofs.Common.{◌≡◌, inl, inr, List, [], ◌∷◌, Option, None, refl, sym, ap, subst}
+use Rattle.mo_types.specs.declared.node.TypeId.{TypeId}
+use Rattle.mo_types.specs.Graph.{Slot, head_at}
+use Rattle.mo_values.specs.declared.operation.Operation.TheVariants as op
+use Rattle.mo_values.specs.Operations.{operate}
+use Rattle.typed_tree.specs.declared.action.Action.TheVariants as action
+use Rattle.typed_tree.specs.declared.program.Program.{Program}
+use Rattle.typed_tree.specs.Language.{Value, Exp, Val, Do, Switch, let_in, then}
+use Rattle.typed_tree.specs.Opening.{shape_of, value_of}
+use Rattle.typed_tree.specs.Patterns.{Bind}
+use Rattle.typed_tree.specs.ProgramView.{program}
+use Rattle.typed_tree.proofs.Opened.{value_shape}
+use Rattle.mo_meaning.specs.Acts.{Store, Given, Act, Goes, Prints, Asks, Awaits, Leaves, Throws, Traps, Stuck}
+use Rattle.mo_meaning.specs.Places.{inside, one}
+use Rattle.mo_meaning.specs.Reduce.{reduce}
+use Rattle.mo_soundness.specs.Keeps.{IsLonger, IsNoValue, KnowsMore, Suits}
+use Rattle.mo_soundness.specs.Lawful.{IsLawful}
+use Rattle.mo_soundness.specs.Running.{AnswerTypes, StoreTyped}
+use Rattle.mo_soundness.proofs.More.{longer_self, knows_self}
+use Rattle.mo_soundness.proofs.Steps.{either, suits_inside}
+use Rattle.program_soundness.specs.Exports.{HookTyped, ExportsTyped}
+use Rattle.program_soundness.specs.Results.{GivesResults}
+use Rattle.program_soundness.specs.Roles.{AHook, IsFunctionAs}
+use Rattle.program_soundness.specs.Runs.{Fitting, KeepsFit, Begins, IsKept}
+use Rattle.program_soundness.specs.Starting.{IsInstalling, AreExports, hook_cases, hook_switch, IsUpgrading, Refused, Begun, Looks, Found, Calls, Runs, Ends}
+use Rattle.program_soundness.proofs.Entering.{hook_called_begins}
+use Rattle.program_soundness.proofs.Exported.{exports_grow, hook_grow}
+use Rattle.program_soundness.proofs.Roles.{function_grow}
+use Rattle.program_soundness.proofs.Starts.{inside_fits, operation_reduces, installing_kept}
+use Rattle.program_soundness.proofs.Typed.{results_kept}
+
+begins_fit : (types : List Slot) (P : Fitting Exp) (answers : AnswerTypes) (kinds : List TypeId) (a : Act) → Begins (head_at types) P answers kinds a → KeepsFit (head_at types) P answers kinds a
+begins_fit types P answers kinds (Goes cost store e) h = h
+begins_fit types P answers kinds (Traps cost text) h = tt
+begins_fit types P answers kinds (Prints cost text e) h = absurd h
+begins_fit types P answers kinds (Asks r) h = absurd h
+begins_fit types P answers kinds (Awaits n c) h = absurd h
+begins_fit types P answers kinds (Leaves l v) h = absurd h
+begins_fit types P answers kinds (Throws cost v) h = absurd h
+begins_fit types P answers kinds Stuck h = absurd h
+
+module _ (p : Program) (lawful : IsLawful (head_at p.types)) where
+  abbrev U : Fitting Exp
+  U answers kinds e = IsUpgrading p.types p answers kinds e
+
+  abbrev Xs : AnswerTypes → List TypeId → Value → Type 0
+  Xs answers kinds v = ExportsTyped p.types answers kinds (program p) v
+
+  module _ (answers : AnswerTypes) (kinds : List TypeId) (given : Option Given) (store : Store) (st : StoreTyped (head_at p.types) answers kinds store kinds) where
+    abbrev asked : Exp → Act
+    asked e = reduce (head_at p.types) None store e
+
+    abbrev reduced : Exp → Act
+    reduced e = reduce (head_at p.types) given store e
+
+    abbrev S : Act → Type 0
+    S a = Suits (head_at p.types) answers kinds given a
+
+    abbrev K : Act → Type 0
+    K a = KeepsFit (head_at p.types) U answers kinds a
+
+    abbrev Reduces : Exp → Type 0
+    Reduces e = S (asked e) → K (reduced e)
+
+    longer_exports : (v : Value) (longer : List TypeId) → IsLonger kinds longer → Xs answers kinds v → Xs answers longer v
+    longer_exports v longer l h = exports_grow p.types answers answers (knows_self answers) kinds longer l (program p) v h
+
+    declared_first : (d : Exp) → IsInstalling p.types p answers kinds d → Reduces (let_in Bind d hook_switch)
+    declared_first d h =
+        either (head_at p.types) lawful answers kinds (λ x y. S x → K y) d _ _ _ _
+        (λ v q j. (kinds, longer_self kinds, st, Looks (value_of (shape_of v)) refl (subst (Xs answers kinds) (sym (value_shape v)) ((installing_kept p lawful).value answers kinds v (subst (IsInstalling p.types p answers kinds) q h)))))
+        (λ active j. inside_fits p.types (IsInstalling p.types p) U answers kinds (λ f. let_in Bind f hook_switch) (λ longer f l k. Begun f refl k) (reduced d)
+        ((installing_kept p lawful).keeps answers kinds given store d active st h (suits_inside (head_at p.types) lawful answers kinds given (λ f. let_in Bind f hook_switch) (asked d) j)))
+
+    hook_looked_for : (v : Value) → Xs answers kinds v → Reduces (Switch (Do (action.Operate (op.Project 2)) (one (Val v))) (hook_cases (Val v) (Val v)))
+    hook_looked_for v x j =
+        let r = operation_reduces (head_at p.types) given store (op.Project 2) (v ∷ []) x.after (ap (λ v. operate (head_at p.types) (op.Project 2) (shape_of v ∷ [])) x.is) in
+        subst (λ a. K (inside (λ f. Switch f (hook_cases (Val v) (Val v))) a)) (sym r.1) (kinds, longer_self kinds, st, Found v x.after refl x x.after_upgrade)
+
+    hook_found : (v x : Value) → Xs answers kinds v → HookTyped p.types answers kinds x → Reduces (Switch (Val x) (hook_cases (Val v) (Val v)))
+    hook_found v x h (inl q) = subst (λ x. Reduces (Switch (Val x) (hook_cases (Val v) (Val v)))) (sym q) (λ j. (kinds, longer_self kinds, st, Ends v refl h))
+    hook_found v x h (inr k) =
+        subst (λ x. Reduces (Switch (Val x) (hook_cases (Val v) (Val v)))) (sym k.1)
+        (λ j. (kinds, longer_self kinds, st, Calls v (value_of (shape_of k.0)) refl h (subst (IsFunctionAs p.types answers kinds AHook) (sym (value_shape k.0)) k.2)))
+
+    hook_called : (v f : Value) → Xs answers kinds v → IsFunctionAs p.types answers kinds AHook f → Reduces (then (Do action.Call (one (Val f))) (Val v))
+    hook_called v f h i j =
+        inside_fits p.types (GivesResults (head_at p.types) []) U answers kinds (λ e. then e (Val v)) (λ longer e l k. Runs v e refl (longer_exports v longer l h) k) (reduced (Do action.Call (one (Val f))))
+        (begins_fit p.types (GivesResults (head_at p.types) []) answers kinds (reduced (Do action.Call (one (Val f)))) (hook_called_begins p.types lawful answers kinds given store f st i))
+
+    hook_runs : (v : Value) (b : Exp) → Xs answers kinds v → GivesResults (head_at p.types) [] answers kinds b → Reduces (then b (Val v))
+    hook_runs v b h i =
+        either (head_at p.types) lawful answers kinds (λ x y. S x → K y) b _ _ _ _
+        (λ u q j. (kinds, longer_self kinds, st, Ends v refl h))
+        (λ active j. inside_fits p.types (GivesResults (head_at p.types) []) U answers kinds (λ e. then e (Val v)) (λ longer e l k. Runs v e refl (longer_exports v longer l h) k) (reduced b)
+        ((results_kept (head_at p.types) [] lawful).keeps answers kinds given store b active st i (suits_inside (head_at p.types) lawful answers kinds given (λ e. then e (Val v)) (asked b) j)))
+
+    upgrading_reduces : (e : Exp) → IsNoValue e → U answers kinds e → Reduces e
+    upgrading_reduces e active (Refused q) = subst Reduces (sym q) (λ j. tt)
+    upgrading_reduces e active (Begun d q h) = subst Reduces (sym q) (declared_first d h)
+    upgrading_reduces e active (Looks v q x) = subst Reduces (sym q) (hook_looked_for v x)
+    upgrading_reduces e active (Found v x q h i) = subst Reduces (sym q) (hook_found v x h i)
+    upgrading_reduces e active (Calls v f q h i) = subst Reduces (sym q) (hook_called v f h i)
+    upgrading_reduces e active (Runs v b q h i) = subst Reduces (sym q) (hook_runs v b h i)
+    upgrading_reduces e active (Ends v q h) = absurd (subst IsNoValue q active)
+
+  upgrading_value : (answers : AnswerTypes) (kinds : List TypeId) (v : Value) → U answers kinds (Val v) → Xs answers kinds v
+  upgrading_value answers kinds v (Refused q) = absurd (subst IsNoValue (sym q) tt)
+  upgrading_value answers kinds v (Begun d q h) = absurd (subst IsNoValue (sym q) tt)
+  upgrading_value answers kinds v (Looks u q h) = absurd (subst IsNoValue (sym q) tt)
+  upgrading_value answers kinds v (Found u x q h i) = absurd (subst IsNoValue (sym q) tt)
+  upgrading_value answers kinds v (Calls u f q h i) = absurd (subst IsNoValue (sym q) tt)
+  upgrading_value answers kinds v (Runs u b q h i) = absurd (subst IsNoValue (sym q) tt)
+  upgrading_value answers kinds v (Ends u q h) = let same : u ≡ v = cc in subst (Xs answers kinds) same h
+
+  upgrading_grows : (answers more : AnswerTypes) (kinds longer : List TypeId) (e : Exp) → KnowsMore answers more → IsLonger kinds longer → U answers kinds e → U more longer e
+  upgrading_grows answers more kinds longer e k l (Refused q) = Refused q
+  upgrading_grows answers more kinds longer e k l (Begun d q h) = Begun d q ((installing_kept p lawful).grows answers more kinds longer d k l h)
+  upgrading_grows answers more kinds longer e k l (Looks v q x) = Looks v q (exports_grow p.types answers more k kinds longer l (program p) v x)
+  upgrading_grows answers more kinds longer e k l (Found v x q h i) = Found v x q (exports_grow p.types answers more k kinds longer l (program p) v h) (hook_grow p.types answers more k kinds longer l x i)
+  upgrading_grows answers more kinds longer e k l (Calls v f q h i) = Calls v f q (exports_grow p.types answers more k kinds longer l (program p) v h) (function_grow p.types answers more k kinds longer l AHook f i)
+  upgrading_grows answers more kinds longer e k l (Runs v b q h i) = Runs v b q (exports_grow p.types answers more k kinds longer l (program p) v h) ((results_kept (head_at p.types) [] lawful).grows answers more kinds longer b k l i)
+  upgrading_grows answers more kinds longer e k l (Ends v q h) = Ends v q (exports_grow p.types answers more k kinds longer l (program p) v h)
+
+  pub upgrading_kept : IsKept (head_at p.types) U (AreExports p.types p)
+  upgrading_kept = record {
+    value = λ answers kinds v h. upgrading_value answers kinds v h;
+    grows = λ answers more kinds longer e k l h. upgrading_grows answers more kinds longer e k l h;
+    keeps = λ answers kinds given store e active st h i. upgrading_reduces answers kinds given store st e active h i;
+  }

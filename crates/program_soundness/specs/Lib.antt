@@ -1,0 +1,13 @@
+pub mod Parameters
+pub mod Opening
+pub mod Agreement
+pub mod Runs
+pub mod Roles
+pub mod Exports
+pub mod Declared
+pub mod Results
+pub mod Starting
+pub mod Bodies
+pub mod Starts
+pub mod Actors
+pub mod Examples
