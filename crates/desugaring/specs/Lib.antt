@@ -1,0 +1,10 @@
+pub mod FreeNames
+pub mod Frames
+pub mod PrincipalBytes
+pub mod Nodes
+pub mod Patterns
+pub mod Pieces
+pub mod Expressions
+pub mod Programs
+pub mod Rows
+pub mod FormRows
