@@ -1,0 +1,9 @@
+use Rattle.std.proofs.Common.{refl}
+use Rattle.std.specs.Str.{is_utf8, chars}
+use Rattle.std.specs.Fmt.{digits}
+use lib.Utf8.{encode}
+use Rattle.core_ir.proofs.rows.functions_are_as_wanted.Goals as goal
+
+pub returns : goal.returns
+unfolding is_utf8 chars encode digits
+returns c = refl
