@@ -1,0 +1,15 @@
+pub mod Around
+pub mod Slots
+pub mod Splits
+pub mod Split
+pub mod Uses
+pub mod Conversion
+pub mod Earlier
+pub mod Converted
+pub mod Nested
+pub mod Carried
+pub mod Laws
+pub mod Rows
+pub mod Following
+pub mod Followed
+pub mod Makes
