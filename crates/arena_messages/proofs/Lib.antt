@@ -1,0 +1,9 @@
+pub mod Steps
+pub mod Labelled
+pub mod Emitted
+pub mod Labels
+pub mod Orders
+pub mod Waits
+pub mod Asking
+pub mod Turns
+pub mod Leaves

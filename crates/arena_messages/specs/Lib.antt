@@ -1,0 +1,4 @@
+pub mod Inside
+pub mod Goes
+pub mod Waiting
+pub mod Asking
