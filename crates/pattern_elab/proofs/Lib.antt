@@ -1,0 +1,5 @@
+pub mod Growing
+pub mod Right
+pub mod Ordered
+pub mod Small
+pub mod Chosen
