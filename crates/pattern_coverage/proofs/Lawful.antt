@@ -1,0 +1,119 @@
+-- The types of a program: labels tell fields apart, and a cell is there for each type that has values.
+use Rattle.std.proofs.Common.{◌≡◌, ◌≢◌, ◌⊎◌, inl, inr, ℕ, zero, suc, ◌<◌, ◌≤◌, List, [], ◌∷◌, length, map, Bool, true, false, arith, Some, None, refl, sym, ap, ◌∙◌, subst, slice_get}
+use Rattle.std.specs.Prelude.{cond, nat_eq, if◌then◌else◌}
+use Rattle.std.specs.Cmp.Lexicographic.{pointwise}
+use Rattle.mo_types.specs.declared.node.Field.{Field}
+use Rattle.mo_types.specs.declared.node.Node.{Node}
+use Rattle.mo_types.specs.declared.node.Node.TheVariants as node
+use Rattle.mo_types.specs.declared.node.TypeId.{TypeId}
+use Rattle.mo_types.specs.Graph.{Slot, node_of_slot, node_or_bottom, head_at}
+use Rattle.mo_types.specs.Heads.{tuple_of, object_of, variant_of, variable_of}
+use Rattle.mo_types.specs.Label.{label_id}
+use Rattle.mo_types.specs.Sub.{Each, IsSomething, find}
+use Rattle.subtype_laws.proofs.Reflexive as reflexivity
+use Rattle.subtype_laws.specs.Labels.{AreOwn, OwnLabels}
+use Rattle.typed_tree.specs.Types.{LabelsDiffer, IsLawfulNode, AreLawful}
+use Rattle.typed_tree.specs.Wants.{Equal}
+use Rattle.pattern_coverage.specs.Cover.{Tells}
+use Rattle.pattern_coverage.specs.Inhabited.{always, HasValues, ByForm, ByParts, ByFields, ByTag, ByBound}
+use Rattle.pattern_coverage.proofs.Option.{bytes_same, bytes_self}
+use Rattle.pattern_coverage.proofs.Seen.{no}
+
+found_here : (f : Field TypeId) (rest : List (Field TypeId)) → find f.label (f ∷ rest) ≡ Some f
+found_here f rest = ap (λ b. if b then Some f else find f.label rest) (bytes_self f.label)
+
+found_later : (f g : Field TypeId) (rest : List (Field TypeId)) → label_id f.label ≢ label_id g.label → find g.label rest ≡ Some g → find g.label (f ∷ rest) ≡ Some g
+found_later f g rest d e = by (pointwise nat_eq f.label g.label) refl
+  where
+    by : (b : Bool) → pointwise nat_eq f.label g.label ≡ b → (if b then Some f else find g.label rest) ≡ Some g
+    by true q = absurd (d (ap label_id (bytes_same f.label g.label q)))
+    by false q = e
+
+all_later : (f : Field TypeId) (rest gs : List (Field TypeId)) → Each (λ y. label_id f.label ≢ y) (map (λ g. label_id g.label) gs) → Each (λ g. find g.label rest ≡ Some g) gs → Each (λ g. find g.label (f ∷ rest) ≡ Some g) gs
+all_later f rest [] d h = tt
+all_later f rest (g ∷ gs) d h = (found_later f g rest d.0 h.0, all_later f rest gs d.1 h.1)
+
+own : (fs : List (Field TypeId)) → LabelsDiffer fs → AreOwn fs
+own [] d = tt
+own (f ∷ fs) d = (found_here f fs, all_later f fs fs d.0 (own fs d.1))
+
+own_labels : (head : TypeId → Node TypeId) (x : Node TypeId) → IsLawfulNode head x → OwnLabels x
+own_labels head (node.Object fs) h = own fs h
+own_labels head (node.Variant fs) h = own fs h.0
+own_labels head (node.Actor fs) h = own fs h.0
+own_labels head x h = tt
+
+pub type_of : ℕ → TypeId
+type_of n = record { index = n }
+
+-- the types with values of those with smaller numbers
+abbrev pub contents_below : (TypeId → Bool) → ℕ → List TypeId
+contents_below has zero = []
+contents_below has (suc n) = cond (has (record { index = n })) (record { index = n } ∷ contents_below has n) (contents_below has n)
+
+module _ (types : List Slot) (lawful : AreLawful types) where
+  pub labels_own : (t : TypeId) → OwnLabels (head_at types t)
+  labels_own t = own_labels (head_at types) (head_at types t) (lawful.nodes t).0
+
+  pub labels_differ : (t : TypeId) (fs : List (Field TypeId)) → head_at types t ≡ node.Object fs → LabelsDiffer fs
+  labels_differ t fs e = subst (IsLawfulNode (head_at types)) e (lawful.nodes t).0
+
+  pub equal_self : (t : TypeId) → Equal (head_at types) t t
+  equal_self t = let r = reflexivity.reflexive (head_at types) t (λ u r. labels_own u) in (r, r)
+
+nothing_there : (types : List Slot) (i : ℕ) → length types ≤ i → slice_get types i ≡ None
+nothing_there [] i l = refl
+nothing_there (s ∷ types) zero l = absurd (omega (arith, l))
+nothing_there (s ∷ types) (suc i) l = nothing_there types i (omega (arith, l))
+
+module _ (types : List Slot) (has : TypeId → Bool) (tells : Tells (head_at types) has) where
+  bottom_has : (t : TypeId) → head_at types t ≡ node.Bottom → HasValues (head_at types) t → ⊥
+  bottom_has t e (ByForm _ h) = no (sym (ap always e) ∙ h)
+  bottom_has t e (ByParts _ ts f h) = subst IsSomething (sym (ap tuple_of f) ∙ ap tuple_of e) tt
+  bottom_has t e (ByFields _ fs f h) = subst IsSomething (sym (ap object_of f) ∙ ap object_of e) tt
+  bottom_has t e (ByTag _ fs l g f i h) = subst IsSomething (sym (ap variant_of f) ∙ ap variant_of e) tt
+  bottom_has t e (ByBound _ b v f h) = subst IsSomething (sym (ap variable_of f) ∙ ap variable_of e) tt
+
+  less_or : (j r : ℕ) → (j < r) ⊎ (r ≤ j)
+  less_or j zero = inr (omega arith)
+  less_or zero (suc r) = inl (omega arith)
+  less_or (suc j) (suc r) = by (less_or j r)
+    where
+      by : (j < r) ⊎ (r ≤ j) → (suc j < suc r) ⊎ (suc r ≤ suc j)
+      by (inl h) = inl (omega (arith, h))
+      by (inr h) = inr (omega (arith, h))
+
+  in_graph : (t : TypeId) → HasValues (head_at types) t → t.index < length types
+  in_graph t h = by (less_or t.index (length types))
+    where
+      by : (t.index < length types) ⊎ (length types ≤ t.index) → t.index < length types
+      by (inl l) = l
+      by (inr l) = absurd (bottom_has t (ap (λ o. node_or_bottom (node_of_slot o)) (nothing_there types t.index l)) h)
+
+  pub contents_have : (n : ℕ) → Each (HasValues (head_at types)) (contents_below has n)
+  contents_have zero = tt
+  contents_have (suc n) = by (has (record { index = n })) refl (contents_have n)
+    where
+      by : (b : Bool) → has (record { index = n }) ≡ b → Each (HasValues (head_at types)) (contents_below has n) → Each (HasValues (head_at types)) (cond b (record { index = n } ∷ contents_below has n) (contents_below has n))
+      by true e h = ((tells (record { index = n })).0 e, h)
+      by false e h = h
+
+  same_or_less : (i n : ℕ) → i < suc n → (i ≡ n) ⊎ (i < n)
+  same_or_less i n l = by (less_or i n)
+    where
+      by : (i < n) ⊎ (n ≤ i) → (i ≡ n) ⊎ (i < n)
+      by (inl h) = inr h
+      by (inr h) = inl (omega (arith, l, h))
+
+  content_at : (t : TypeId) (n : ℕ) → t.index < n → has t ≡ true → (at : ℕ) × (slice_get (contents_below has n) at ≡ Some t)
+  content_at t zero l h = absurd (omega (arith, l))
+  content_at t (suc n) l h = by (has (record { index = n })) refl (same_or_less t.index n l) (λ s. content_at t n s h)
+    where
+      by : (b : Bool) → has (record { index = n }) ≡ b → (t.index ≡ n) ⊎ (t.index < n) → (t.index < n → (at : ℕ) × (slice_get (contents_below has n) at ≡ Some t)) → (at : ℕ) × (slice_get (cond b (record { index = n } ∷ contents_below has n) (contents_below has n)) at ≡ Some t)
+      by true e (inl s) k = (0, ap (λ n. Some (record { index = n })) (sym s))
+      by true e (inr s) k = let r = k s in (suc r.0, r.1)
+      by false e (inl s) k = absurd (no (sym e ∙ subst (λ n. has (record { index = n }) ≡ true) s h))
+      by false e (inr s) k = k s
+
+  pub content : (t : TypeId) → HasValues (head_at types) t → (at : ℕ) × (slice_get (contents_below has (length types)) at ≡ Some t)
+  content t h = content_at t (length types) (in_graph t h) ((tells t).1 h)

@@ -1,0 +1,7 @@
+pub mod Inhabited
+pub mod Known
+pub mod Leaves
+pub mod Suited
+pub mod Cutting
+pub mod Cover
+pub mod Rows
