@@ -8,7 +8,6 @@ use crate::types::{TypeExpression, TypeParameter};
 
 /// A declaration.
 #[cycle(expression)]
-#[derive(Drop)]
 pub enum Declaration {
     /// `let p = e`
     Let(Node<Pattern>, Node<Expression>),
@@ -44,8 +43,33 @@ pub enum Visibility {
 
 /// A declaration in an object or class, with `public` or `private` before it or neither.
 #[cycle(expression)]
-#[derive(Drop)]
 pub struct DeclarationField {
     pub visibility: Option<Visibility>,
     pub declaration: Node<Declaration>,
+}
+
+// Written here, so that they are proved here, and not again in each crate that lets a declaration go.
+impl Drop for Declaration {
+    #[cycle(expression_drop)]
+    fn drop(self) {
+        match self {
+            Declaration::Let(_pattern, _expression) => {}
+            Declaration::Var(_name, _annotation, _expression) => {}
+            Declaration::Func(_name, _generics, _parameters, _annotation, _flag, _expression) => {}
+            Declaration::TypeAlias(_name, _names, _annotation) => {}
+            Declaration::Class(_name, _generics, _parameters, _fields, _flag) => {}
+            Declaration::NamedObject(_name, _fields, _flag) => {}
+            Declaration::Evaluate(_expression) => {}
+        }
+    }
+}
+
+impl Drop for DeclarationField {
+    #[cycle(expression_drop)]
+    fn drop(self) {
+        let DeclarationField {
+            visibility: _visibility,
+            declaration: _declaration,
+        } = self;
+    }
 }

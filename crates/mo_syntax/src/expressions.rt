@@ -11,7 +11,6 @@ use crate::types::TypeExpression;
 
 /// An expression, or a block where one may stand in its place.
 #[cycle(expression)]
-#[derive(Drop)]
 pub enum Expression {
     /// `e := f`, or with another operator of assignment.
     Assign(AssignmentOperator, Node<Expression>, Node<Expression>),
@@ -93,7 +92,6 @@ pub enum Expression {
 
 /// `case p e`
 #[cycle(expression)]
-#[derive(Drop)]
 pub struct Case {
     pub pattern: Node<Pattern>,
     pub body: Node<Expression>,
@@ -101,10 +99,78 @@ pub struct Case {
 
 /// `x : A = e`, with `var` before it or not. The type and the value may be missing.
 #[cycle(expression)]
-#[derive(Drop)]
 pub struct ExpressionField {
     pub mutable: bool,
     pub name: Name,
     pub annotation: Option<Node<TypeExpression>>,
     pub value: Option<Node<Expression>>,
+}
+
+// Written here, so that they are proved here, and not again in each crate that lets an expression go.
+impl Drop for Expression {
+    #[cycle(expression_drop)]
+    fn drop(self) {
+        match self {
+            Expression::Assign(_operator, _first_expression, _second_expression) => {}
+            Expression::Annotated(_expression, _annotation) => {}
+            Expression::Binary(_operator, _first_expression, _second_expression) => {}
+            Expression::If(_first_expression, _second_expression, _third_expression) => {}
+            Expression::Switch(_expression, _cases, _flag) => {}
+            Expression::While(_first_expression, _second_expression) => {}
+            Expression::Loop(_first_expression, _second_expression) => {}
+            Expression::For(_pattern, _first_expression, _second_expression) => {}
+            Expression::Label(_name, _annotation, _expression) => {}
+            Expression::Break(_name, _expression) => {}
+            Expression::Continue(_name) => {}
+            Expression::Return(_expression) => {}
+            Expression::Do(_expression) => {}
+            Expression::DoOptional(_expression) => {}
+            Expression::Await(_expression) => {}
+            Expression::Throw(_expression) => {}
+            Expression::Try(_first_expression, _pattern, _second_expression) => {}
+            Expression::Assert(_expression) => {}
+            Expression::Ignore(_expression) => {}
+            Expression::Debug(_expression) => {}
+            Expression::Function(_parameters, _annotation, _flag, _expression) => {}
+            Expression::ObjectBlock(_fields, _flag) => {}
+            Expression::Optional(_expression) => {}
+            Expression::Negative(_expression) => {}
+            Expression::Not(_expression) => {}
+            Expression::Tagged(_name, _expression) => {}
+            Expression::Member(_expression, _name) => {}
+            Expression::Projection(_expression, _number) => {}
+            Expression::Index(_first_expression, _second_expression) => {}
+            Expression::Call(_expression, _arguments, _expressions) => {}
+            Expression::Bang(_expression) => {}
+            Expression::Constant(_literal) => {}
+            Expression::Variable(_name) => {}
+            Expression::Parenthesized(_expressions) => {}
+            Expression::Array(_flag, _expressions) => {}
+            Expression::Object(_fields, _flag) => {}
+            Expression::ActorReference(_flag, _text) => {}
+            Expression::Block(_declarations, _flag) => {}
+        }
+    }
+}
+
+impl Drop for Case {
+    #[cycle(expression_drop)]
+    fn drop(self) {
+        let Case {
+            pattern: _pattern,
+            body: _body,
+        } = self;
+    }
+}
+
+impl Drop for ExpressionField {
+    #[cycle(expression_drop)]
+    fn drop(self) {
+        let ExpressionField {
+            mutable: _mutable,
+            name: _name,
+            annotation: _annotation,
+            value: _value,
+        } = self;
+    }
 }

@@ -6,9 +6,15 @@ use std::alloc::Global;
 use std::marker::Model;
 
 /// A list of parts of a tree, which contracts see as the list of their values. A tree may hold itself through it.
-#[derive(Drop)]
 pub struct Items<T> {
     list: Vec<T>,
+}
+
+// Written here, so that it is proved here, and not again in each crate that lets items go.
+impl<T: Drop> Drop for Items<T> {
+    fn drop(self) {
+        let Items { list: _list } = self;
+    }
 }
 
 impl<T> Model for Items<T> {

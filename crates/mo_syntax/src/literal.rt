@@ -2,7 +2,6 @@
 use crate::text::Text;
 
 /// A literal, as its value.
-#[derive(Drop)]
 pub enum Literal {
     /// A number, without a sign.
     Number(u64),
@@ -13,4 +12,18 @@ pub enum Literal {
     True,
     False,
     Null,
+}
+
+// Written here, so that it is proved here, and not again in each crate that lets a literal go.
+impl Drop for Literal {
+    fn drop(self) {
+        match self {
+            Literal::Number(_number) => {}
+            Literal::Character(_character) => {}
+            Literal::Text(_text) => {}
+            Literal::True => {}
+            Literal::False => {}
+            Literal::Null => {}
+        }
+    }
 }

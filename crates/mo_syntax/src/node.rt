@@ -7,10 +7,19 @@ use std::alloc::Global;
 use std::marker::Model;
 
 /// A part of a tree with its place in the source. Contracts see the part alone, so trees that differ in places only are equal there.
-#[derive(Drop)]
 pub struct Node<T> {
     inner: Box<T>,
     place: Place,
+}
+
+// Written here, so that it is proved here, and not again in each crate that lets a part go.
+impl<T: Drop> Drop for Node<T> {
+    fn drop(self) {
+        let Node {
+            inner: _inner,
+            place: _place,
+        } = self;
+    }
 }
 
 impl<T> Model for Node<T> {

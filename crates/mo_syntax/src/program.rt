@@ -28,7 +28,6 @@ impl Drop for Tree {
 }
 
 /// `import x "path";`
-#[derive(Drop)]
 pub struct Import {
     pub name: Name,
     /// Whether `=` stands behind the name.
@@ -37,7 +36,6 @@ pub struct Import {
 }
 
 /// `actor x { .. }`. The name may be missing.
-#[derive(Drop)]
 pub struct Actor {
     pub name: Option<Name>,
     /// Whether `=` stands before the fields.
@@ -48,7 +46,6 @@ pub struct Actor {
 }
 
 /// A field of an actor.
-#[derive(Drop)]
 pub enum ActorField {
     /// `public` and a function.
     Public(Node<SharedFunction>),
@@ -61,7 +58,6 @@ pub enum ActorField {
 }
 
 /// A public function of an actor: `shared (p) func f(q) : A { .. }`, or with `=` and an expression as its body.
-#[derive(Drop)]
 pub struct SharedFunction {
     pub prefix: Option<SharedPrefix>,
     pub name: Name,
@@ -73,7 +69,6 @@ pub struct SharedFunction {
 }
 
 /// What stands before `func`.
-#[derive(Drop)]
 pub struct SharedPrefix {
     pub sort: SharedSort,
     pub context: Option<Context>,
@@ -91,10 +86,73 @@ pub enum SharedSort {
 }
 
 /// The pattern of the context of a call.
-#[derive(Drop)]
 pub enum Context {
     /// `( p )`
     Parenthesized(Node<Pattern>),
     /// `{ x = p; y }`, with a last `;` or not.
     Object(Items<Node<PatternField>>, bool),
+}
+
+// Written here, so that they are proved here, and not again in each crate that lets a part of a program go.
+impl Drop for Import {
+    fn drop(self) {
+        let Import {
+            name: _name,
+            equal_sign: _equal_sign,
+            path: _path,
+        } = self;
+    }
+}
+
+impl Drop for Actor {
+    fn drop(self) {
+        let Actor {
+            name: _name,
+            equal_sign: _equal_sign,
+            fields: _fields,
+            semicolon: _semicolon,
+        } = self;
+    }
+}
+
+impl Drop for ActorField {
+    fn drop(self) {
+        match self {
+            ActorField::Public(_function) => {}
+            ActorField::System(_name, _flag, _expression) => {}
+            ActorField::Declared(_flag, _declaration) => {}
+            ActorField::Stable(_flag, _name, _annotation, _expression) => {}
+        }
+    }
+}
+
+impl Drop for SharedFunction {
+    fn drop(self) {
+        let SharedFunction {
+            prefix: _prefix,
+            name: _name,
+            parameters: _parameters,
+            result: _result,
+            equal_sign: _equal_sign,
+            body: _body,
+        } = self;
+    }
+}
+
+impl Drop for SharedPrefix {
+    fn drop(self) {
+        let SharedPrefix {
+            sort: _sort,
+            context: _context,
+        } = self;
+    }
+}
+
+impl Drop for Context {
+    fn drop(self) {
+        match self {
+            Context::Parenthesized(_pattern) => {}
+            Context::Object(_fields, _flag) => {}
+        }
+    }
 }

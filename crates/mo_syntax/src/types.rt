@@ -5,7 +5,6 @@ use crate::node::Node;
 
 /// A type.
 #[cycle(type_expression)]
-#[derive(Drop)]
 pub enum TypeExpression {
     /// `A -> B`, where `shared` or `shared query` may stand before it.
     Function(Sharing, Node<TypeExpression>, Node<TypeExpression>),
@@ -42,7 +41,6 @@ pub enum Sharing {
 
 /// `A`, or `x : A`, in parentheses.
 #[cycle(type_expression)]
-#[derive(Drop)]
 pub struct TypeItem {
     pub name: Option<Name>,
     pub annotation: Node<TypeExpression>,
@@ -50,7 +48,6 @@ pub struct TypeItem {
 
 /// `x : A`, or `var x : A`, in an object type.
 #[cycle(type_expression)]
-#[derive(Drop)]
 pub struct TypeField {
     pub mutable: bool,
     pub name: Name,
@@ -59,7 +56,6 @@ pub struct TypeField {
 
 /// `#a`, or `#a : A`, in a variant type.
 #[cycle(type_expression)]
-#[derive(Drop)]
 pub struct TypeTag {
     pub name: Name,
     pub payload: Option<Node<TypeExpression>>,
@@ -67,15 +63,82 @@ pub struct TypeTag {
 
 /// `f : A`, in an actor type.
 #[cycle(type_expression)]
-#[derive(Drop)]
 pub struct TypeMethod {
     pub name: Name,
     pub annotation: Node<TypeExpression>,
 }
 
 /// `T`, or `T <: A`, in the type parameters of a function or class.
-#[derive(Drop)]
 pub struct TypeParameter {
     pub name: Name,
     pub bound: Option<Node<TypeExpression>>,
+}
+
+// Written here, so that they are proved here, and not again in each crate that lets a type go.
+impl Drop for TypeExpression {
+    #[cycle(type_drop)]
+    fn drop(self) {
+        match self {
+            TypeExpression::Function(_sharing, _from, _to) => {}
+            TypeExpression::Optional(_of) => {}
+            TypeExpression::Async(_of) => {}
+            TypeExpression::Named(_name, _arguments) => {}
+            TypeExpression::Parenthesized(_items) => {}
+            TypeExpression::Array(_mutable, _of) => {}
+            TypeExpression::Object(_object, _fields, _semicolon) => {}
+            TypeExpression::EmptyVariant => {}
+            TypeExpression::Variant(_tags, _semicolon) => {}
+            TypeExpression::Actor(_methods, _semicolon) => {}
+        }
+    }
+}
+
+impl Drop for TypeItem {
+    #[cycle(type_drop)]
+    fn drop(self) {
+        let TypeItem {
+            name: _name,
+            annotation: _annotation,
+        } = self;
+    }
+}
+
+impl Drop for TypeField {
+    #[cycle(type_drop)]
+    fn drop(self) {
+        let TypeField {
+            mutable: _mutable,
+            name: _name,
+            annotation: _annotation,
+        } = self;
+    }
+}
+
+impl Drop for TypeTag {
+    #[cycle(type_drop)]
+    fn drop(self) {
+        let TypeTag {
+            name: _name,
+            payload: _payload,
+        } = self;
+    }
+}
+
+impl Drop for TypeMethod {
+    #[cycle(type_drop)]
+    fn drop(self) {
+        let TypeMethod {
+            name: _name,
+            annotation: _annotation,
+        } = self;
+    }
+}
+
+impl Drop for TypeParameter {
+    fn drop(self) {
+        let TypeParameter {
+            name: _name,
+            bound: _bound,
+        } = self;
+    }
 }
