@@ -18,6 +18,7 @@ use Rattle.mo_actor.specs.Outcomes.{Outcome}
 use Rattle.mo_actor.specs.Courses.{Course, Over, Runs, NoCourse, ComesTo}
 use Rattle.mo_actor.specs.Upgrades.{saving}
 use Rattle.mo_actor.specs.Steps.{life_course}
+use Rattle.mo_actor.proofs.Looser.{looser_result, looser_course}
 use Rattle.actor_refinement.specs.Ends.{EndsAlike, install_end, upgrade_end}
 use Rattle.actor_refinement.specs.Refines.{Follows, Starts, Refines}
 
@@ -42,31 +43,21 @@ one_event_less Stable Given pays limits own p (suc count) a s f = record {
 }
 
 module _ (strict loose : Measure) (weaker : (e : Exhaustion) → strict e → loose e) where
-  looser_result : {A : Type 0} (first_memory charged : ℕ) (x : Execution A) (r : Result A) → HasResult strict first_memory charged x r → HasResult loose first_memory charged x r
-  looser_result first_memory charged x (Completed prints weight a) h = h
-  looser_result first_memory charged x (Trapped prints text) h = h
-  looser_result first_memory charged x (Exhausted prints cause) h = (h.0, h.1, h.2, weaker (exhaustion first_memory charged cause (x h.0)) h.3)
-
-  looser_course : {S : Type 0} (c : Course S) (o : Outcome S) → ComesTo strict c o → ComesTo loose c o
-  looser_course (Over q) o h = h
-  looser_course (Runs A first_memory charged x behind) o h = (h.0, looser_result first_memory charged x h.0 h.1, looser_course (behind h.0) o h.2)
-  looser_course NoCourse o h = h
-
   module _ {L : Language} (Stable : L.kept → List ℕ → Type 0) (More Fewer : Event → Type 0) (fewer : (e : Event) → Fewer e → More e) (limits : ExecutionLimits) (own : List ℕ) (p : Program L) where
     follows_fewer : (count : ℕ) (a : Actor L) (s : HostState) → Follows Stable More strict limits own p count a s → Follows Stable Fewer loose limits own p count a s
     follows_fewer zero a s f = tt
     follows_fewer (suc count) a s f = record {
       agrees = f.agrees;
       steps = λ e life given. let x = f.steps e life (fewer e given) in
-          (x.0, looser_course (life_course p own e a) x.0 x.1, x.2, follows_fewer count x.0.next (step [] limits own e s).next x.3);
+          (x.0, looser_course strict loose weaker (life_course p own e a) x.0 x.1, x.2, follows_fewer count x.0.next (step [] limits own e s).next x.3);
       saves = λ number given. let x = f.saves number (fewer (event.Upgrade number) given) in
-          (x.0, looser_result p.first_memory a.charged (saving p own a) x.0 x.1, x.2);
+          (x.0, looser_result strict loose weaker p.first_memory a.charged (saving p own a) x.0 x.1, x.2);
     }
 
     starts_fewer : (m : Module) (kept : Option L.kept) (end : End) → Starts Stable More strict limits own p m kept end → Starts Stable Fewer loose limits own p m kept end
     starts_fewer m kept end x = (
       x.0,
-      looser_result p.first_memory 0 (p.start own kept) x.0 x.1,
+      looser_result strict loose weaker p.first_memory 0 (p.start own kept) x.0 x.1,
       ends_alike (λ weight store left f count made activations incoming same. follows_fewer count _ _ (f count made activations incoming same)) x.0 end x.2,
     )
 

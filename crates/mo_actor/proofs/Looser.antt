@@ -13,12 +13,12 @@ use Rattle.mo_actor.specs.Courses.{Course, Over, Runs, NoCourse, ComesTo}
 use Rattle.mo_actor.specs.Steps.{event_course, RunsFrom, ActorRun}
 
 module _ (strict loose : Measure) (weaker : (e : Exhaustion) → strict e → loose e) where
-  looser_result : {A : Type 0} (first_memory charged : ℕ) (x : Execution A) (r : Result A) → HasResult strict first_memory charged x r → HasResult loose first_memory charged x r
+  pub looser_result : {A : Type 0} (first_memory charged : ℕ) (x : Execution A) (r : Result A) → HasResult strict first_memory charged x r → HasResult loose first_memory charged x r
   looser_result first_memory charged x (Completed prints weight a) h = h
   looser_result first_memory charged x (Trapped prints text) h = h
   looser_result first_memory charged x (Exhausted prints cause) h = (h.0, h.1, h.2, weaker (exhaustion first_memory charged cause (x h.0)) h.3)
 
-  looser_course : {S : Type 0} (c : Course S) (o : Outcome S) → ComesTo strict c o → ComesTo loose c o
+  pub looser_course : {S : Type 0} (c : Course S) (o : Outcome S) → ComesTo strict c o → ComesTo loose c o
   looser_course (Over q) o h = h
   looser_course (Runs A first_memory charged x behind) o h = (h.0, looser_result first_memory charged x h.0 h.1, looser_course (behind h.0) o h.2)
   looser_course NoCourse o h = h

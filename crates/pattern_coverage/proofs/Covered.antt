@@ -15,7 +15,8 @@ use Rattle.pattern_coverage.specs.Known.{Known, Unknown}
 use Rattle.pattern_coverage.specs.Suited.{IsOn}
 use Rattle.pattern_coverage.proofs.Cuts.{IsMissed, missed_match_none, Among, none_is_missed}
 use Rattle.pattern_coverage.proofs.Having.{type_has}
-use Rattle.pattern_coverage.proofs.Lawful.{labels_own, labels_differ, equal_self, contents_below, contents_have, content}
+use Rattle.typed_tree.proofs.OwnLabels.{labels_own}
+use Rattle.pattern_coverage.proofs.Lawful.{labels_differ, equal_self, contents_below, contents_have, content}
 use Rattle.pattern_coverage.proofs.Pieces.{Val}
 use Rattle.pattern_coverage.proofs.Seen.{no}
 use Rattle.pattern_coverage.proofs.Witness.{witness}

@@ -1,47 +1,19 @@
 -- The types of a program: labels tell fields apart, and a cell is there for each type that has values.
-use Rattle.std.proofs.Common.{◌≡◌, ◌≢◌, ◌⊎◌, inl, inr, ℕ, zero, suc, ◌<◌, ◌≤◌, List, [], ◌∷◌, length, map, Bool, true, false, arith, Some, None, refl, sym, ap, ◌∙◌, subst, slice_get}
-use Rattle.std.specs.Prelude.{cond, nat_eq, if◌then◌else◌}
-use Rattle.std.specs.Cmp.Lexicographic.{pointwise}
+use Rattle.std.proofs.Common.{◌≡◌, ◌⊎◌, inl, inr, ℕ, zero, suc, ◌<◌, ◌≤◌, List, [], ◌∷◌, length, Bool, true, false, arith, Some, None, refl, sym, ap, ◌∙◌, subst, slice_get}
+use Rattle.std.specs.Prelude.{cond}
 use Rattle.mo_types.specs.declared.node.Field.{Field}
-use Rattle.mo_types.specs.declared.node.Node.{Node}
 use Rattle.mo_types.specs.declared.node.Node.TheVariants as node
 use Rattle.mo_types.specs.declared.node.TypeId.{TypeId}
 use Rattle.mo_types.specs.Graph.{Slot, node_of_slot, node_or_bottom, head_at}
 use Rattle.mo_types.specs.Heads.{tuple_of, object_of, variant_of, variable_of}
-use Rattle.mo_types.specs.Label.{label_id}
-use Rattle.mo_types.specs.Sub.{Each, IsSomething, find}
+use Rattle.mo_types.specs.Sub.{Each, IsSomething}
 use Rattle.subtype_laws.proofs.Reflexive as reflexivity
-use Rattle.subtype_laws.specs.Labels.{AreOwn, OwnLabels}
 use Rattle.typed_tree.specs.Types.{LabelsDiffer, IsLawfulNode, AreLawful}
 use Rattle.typed_tree.specs.Wants.{Equal}
+use Rattle.typed_tree.proofs.OwnLabels.{labels_own}
 use Rattle.pattern_coverage.specs.Cover.{Tells}
 use Rattle.pattern_coverage.specs.Inhabited.{always, HasValues, ByForm, ByParts, ByFields, ByTag, ByBound}
-use Rattle.pattern_coverage.proofs.Option.{bytes_same, bytes_self}
 use Rattle.pattern_coverage.proofs.Seen.{no}
-
-found_here : (f : Field TypeId) (rest : List (Field TypeId)) → find f.label (f ∷ rest) ≡ Some f
-found_here f rest = ap (λ b. if b then Some f else find f.label rest) (bytes_self f.label)
-
-found_later : (f g : Field TypeId) (rest : List (Field TypeId)) → label_id f.label ≢ label_id g.label → find g.label rest ≡ Some g → find g.label (f ∷ rest) ≡ Some g
-found_later f g rest d e = by (pointwise nat_eq f.label g.label) refl
-  where
-    by : (b : Bool) → pointwise nat_eq f.label g.label ≡ b → (if b then Some f else find g.label rest) ≡ Some g
-    by true q = absurd (d (ap label_id (bytes_same f.label g.label q)))
-    by false q = e
-
-all_later : (f : Field TypeId) (rest gs : List (Field TypeId)) → Each (λ y. label_id f.label ≢ y) (map (λ g. label_id g.label) gs) → Each (λ g. find g.label rest ≡ Some g) gs → Each (λ g. find g.label (f ∷ rest) ≡ Some g) gs
-all_later f rest [] d h = tt
-all_later f rest (g ∷ gs) d h = (found_later f g rest d.0 h.0, all_later f rest gs d.1 h.1)
-
-own : (fs : List (Field TypeId)) → LabelsDiffer fs → AreOwn fs
-own [] d = tt
-own (f ∷ fs) d = (found_here f fs, all_later f fs fs d.0 (own fs d.1))
-
-own_labels : (head : TypeId → Node TypeId) (x : Node TypeId) → IsLawfulNode head x → OwnLabels x
-own_labels head (node.Object fs) h = own fs h
-own_labels head (node.Variant fs) h = own fs h.0
-own_labels head (node.Actor fs) h = own fs h.0
-own_labels head x h = tt
 
 pub type_of : ℕ → TypeId
 type_of n = record { index = n }
@@ -52,14 +24,11 @@ contents_below has zero = []
 contents_below has (suc n) = cond (has (record { index = n })) (record { index = n } ∷ contents_below has n) (contents_below has n)
 
 module _ (types : List Slot) (lawful : AreLawful types) where
-  pub labels_own : (t : TypeId) → OwnLabels (head_at types t)
-  labels_own t = own_labels (head_at types) (head_at types t) (lawful.nodes t).0
-
   pub labels_differ : (t : TypeId) (fs : List (Field TypeId)) → head_at types t ≡ node.Object fs → LabelsDiffer fs
   labels_differ t fs e = subst (IsLawfulNode (head_at types)) e (lawful.nodes t).0
 
   pub equal_self : (t : TypeId) → Equal (head_at types) t t
-  equal_self t = let r = reflexivity.reflexive (head_at types) t (λ u r. labels_own u) in (r, r)
+  equal_self t = let r = reflexivity.reflexive (head_at types) t (λ u r. labels_own types lawful u) in (r, r)
 
 nothing_there : (types : List Slot) (i : ℕ) → length types ≤ i → slice_get types i ≡ None
 nothing_there [] i l = refl

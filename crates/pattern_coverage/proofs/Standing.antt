@@ -34,7 +34,7 @@ use Rattle.typed_tree.specs.Wants.{Want, Below}
 use Rattle.typed_tree.proofs.Rules as rules
 use Rattle.pattern_coverage.specs.Suited.{IsTold, IsConstantOn, IsPlainLiteral, OnOption, OnPart, OnVariant, OnTuple, OnObject, IsOn, AreOn, FieldsOn, IsPlain, ArePlain, IsNoParameter, InOption, InVariant, InTuple, InObject, AvoidsParameters, AllAvoid, FieldsAvoid}
 use Rattle.pattern_coverage.proofs.Having.{found_each, at_some}
-use Rattle.pattern_coverage.proofs.Lawful.{labels_own}
+use Rattle.typed_tree.proofs.OwnLabels.{labels_own}
 use Rattle.pattern_coverage.proofs.Seen.{no}
 use Rattle.pattern_coverage.proofs.Tag.{found_label}
 

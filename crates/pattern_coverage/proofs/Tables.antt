@@ -17,7 +17,7 @@ use Rattle.subtype_laws.specs.Labels.{OwnLabels}
 use Rattle.pattern_coverage.specs.Cover.{Tells}
 use Rattle.typed_tree.specs.Types.{AreLawful}
 use Rattle.pattern_coverage.specs.Inhabited.{always, HasValues, ByForm, ByParts, ByFields, ByTag, ByBound, EachHasValues, NoType, AType, all_have, some_has, by_parts, IsSound, IsClosed, flag_there, in_table, left_out, type_at, IsNext, AreDone}
-use Rattle.pattern_coverage.proofs.Lawful.{labels_own}
+use Rattle.typed_tree.proofs.OwnLabels.{labels_own}
 use Rattle.pattern_coverage.proofs.Same.{both}
 use Rattle.pattern_coverage.proofs.Seen.{no}
 

@@ -49,7 +49,7 @@ use Rattle.mo_types.specs.declared.node.Node.{Node}
 use Rattle.program_soundness.specs.Agreement.{WaitsOn, GivenFits, StateFits, Agrees, awaited_by, IsWaiting}
 use Rattle.program_soundness.specs.Actors.{IsProper, WaitFits, ActorTyped, IsTypedProgram, AreTyped, StateTyped}
 use Rattle.program_soundness.specs.Bodies.{IsEntry, FieldsTyped, WaitingTyped, BodyFits, EndingFits, EffectsFit, with_calls}
-use Rattle.program_soundness.specs.Parameters.{HasBasics, HasNoParameters}
+use Rattle.program_soundness.specs.Parameters.{HasNoParameters}
 use Rattle.program_soundness.specs.Results.{GivesResults}
 use Rattle.program_soundness.specs.Roles.{calling}
 use Rattle.program_soundness.specs.Runs.{KeepsFit}
@@ -163,12 +163,12 @@ module _ (head : TypeId → Node TypeId) (answers : AnswerTypes) (kinds : List T
 
 -- ---- an actor whose program is typed
 
-module _ (coding : Coding) (faithful : IsFaithful coding) (p : TypedProgram) (w : WellTyped p) (basics : HasBasics p.types) (none : HasNoParameters p.types) (own : Bytes) (short : length own ≤ 29) where
+module _ (coding : Coding) (faithful : IsFaithful coding) (p : TypedProgram) (w : WellTyped p) (none : HasNoParameters p.types) (own : Bytes) (short : length own ≤ 29) where
   abbrev P : Program
   P = program p
 
   lawful : IsLawful (head_at p.types)
-  lawful = lawful_types p.types w.types basics
+  lawful = lawful_types p.types w.types w.basics
 
   -- what is known while its activations are set
   pub record Known (answers : AnswerTypes) (kinds : List TypeId) (a : Actor kernel) : Type 0 where
@@ -448,13 +448,13 @@ module _ (coding : Coding) (faithful : IsFaithful coding) (pays : Measure) (prog
   updates name caller bytes q a entry found r has few st =
       let t = st.0 in
       let p = t.program_of in
-      let k = typed_known coding faithful p t.well_typed t.basics t.no_parameters own short a st.1 in
+      let k = typed_known coding faithful p t.well_typed t.no_parameters own short a st.1 in
       let is = method_is (program p) false name (program p).methods 0 entry (λ j m e. ap (slice_get (program p).methods) (omega arith) ∙ e) (subst (λ (x : actor.Program kernel). x.update name ≡ Some entry) t.is found) in
       let has' = subst (λ (x : actor.Program kernel). HasResult pays x.first_memory a.charged (entered x own a entry caller bytes) r) t.is has in (
         t,
-        update_typed coding faithful p t.well_typed t.basics t.no_parameters own short st.1.answers st.1.kinds a k r
+        update_typed coding faithful p t.well_typed t.no_parameters own short st.1.answers st.1.kinds a k r
             (λ ps v e z. let c = completes (meant q t).first_memory a.charged (entered (meant q t) own a entry caller bytes) r has' ps v e z in
-            call_left coding faithful p t.well_typed t.basics t.no_parameters own short t.first st.1.answers st.1.kinds a entry caller bytes k is few c.0 e c.1),
+            call_left coding faithful p t.well_typed t.no_parameters own short t.first st.1.answers st.1.kinds a entry caller bytes k is few c.0 e c.1),
       )
 
   answers_come : (number : ℕ) (received : Received) (q : actor.Program kernel) (a : Actor kernel) (call : Row) → call_at a.table number ≡ Some call → is_open_state call.state ≡ true → (r : Result (Effects kernel))
@@ -462,13 +462,13 @@ module _ (coding : Coding) (faithful : IsFaithful coding) (pays : Measure) (prog
   answers_come number received q a call found opened r has proper st =
       let t = st.0 in
       let p = t.program_of in
-      let k = typed_known coding faithful p t.well_typed t.basics t.no_parameters own short a st.1 in
+      let k = typed_known coding faithful p t.well_typed t.no_parameters own short a st.1 in
       let has' = subst (λ (x : actor.Program kernel). HasResult pays x.first_memory a.charged (answering x own a number call received) r) t.is has in (
         t,
         subst (λ (x : actor.Program kernel). ActorTyped p.types (program p) (answer_outcome number call.owner (received_value x own a call received) a r).next) (sym t.is)
-            (answer_typed coding faithful p t.well_typed t.basics t.no_parameters own short t.first a st.1.answers st.1.kinds k number call found opened received proper r
+            (answer_typed coding faithful p t.well_typed t.no_parameters own short t.first a st.1.answers st.1.kinds k number call found opened received proper r
             (λ ps v e z. let c = completes (meant q t).first_memory a.charged (answering (meant q t) own a number call received) r has' ps v e z in
-            answer_left coding faithful p t.well_typed t.basics t.no_parameters own short t.first a st.1.answers st.1.kinds k number call found opened received proper c.0 e c.1)),
+            answer_left coding faithful p t.well_typed t.no_parameters own short t.first a st.1.answers st.1.kinds k number call found opened received proper c.0 e c.1)),
       )
 
   -- a start that completes
@@ -477,14 +477,14 @@ module _ (coding : Coding) (faithful : IsFaithful coding) (pays : Measure) (prog
   begins q t o first charged prints weight fields has =
       let p = t.program_of in
       let has' = subst (λ (x : actor.Program kernel). HasResult pays first charged (x.start own o) (Completed prints weight fields)) t.is has in
-      start_left p t.well_typed t.no_parameters (lawful_types p.types t.well_typed.types t.basics) own short coding faithful (variables_share p.types t.well_typed.end p.stable t.well_typed.stable)
+      start_left p t.well_typed t.no_parameters (lawful_types p.types t.well_typed.types t.well_typed.basics) own short coding faithful (variables_share p.types t.well_typed.end p.stable t.well_typed.stable)
       (messages_shareable p.types t.well_typed.types) o has'.0 fields (ap (λ x. x.completion) has'.2)
 
   install_typed : (number made : ℕ) (acts : List Standing) (q : actor.Program kernel) → slice_get programs number ≡ Some q → (r : Result Fields) → HasResult pays q.first_memory 0 (q.start own None) r → StateTyped coding (NoActor made acts)
       → StateTyped coding (installed q made acts r).next
   install_typed number made acts q found (Completed prints weight fields) has early =
       let t = typed number q found in
-      (t, started_typed coding faithful t.program_of t.well_typed t.basics t.no_parameters own short made acts fields weight (begins q t None q.first_memory 0 prints weight fields has) early)
+      (t, started_typed coding faithful t.program_of t.well_typed t.no_parameters own short made acts fields weight (begins q t None q.first_memory 0 prints weight fields has) early)
   install_typed number made acts q found (Trapped prints text) has early = early
   install_typed number made acts q found (Exhausted prints cause) has early = early
 
@@ -493,7 +493,7 @@ module _ (coding : Coding) (faithful : IsFaithful coding) (pays : Measure) (prog
   upgrade_typed number old a q found before kept (Completed prints weight fields) has st =
       let t = typed number q found in (
         t,
-        started_typed coding faithful t.program_of t.well_typed t.basics t.no_parameters own short (next_number a.table) a.activations fields weight (begins q t (Some kept) q.first_memory 0 prints weight fields has)
+        started_typed coding faithful t.program_of t.well_typed t.no_parameters own short (next_number a.table) a.activations fields weight (begins q t (Some kept) q.first_memory 0 prints weight fields has)
             (λ owner n v e. (st.1.waits owner n v e).made),
       )
   upgrade_typed number old a q found before kept (Trapped prints text) has st = st
@@ -503,17 +503,17 @@ module _ (coding : Coding) (faithful : IsFaithful coding) (pays : Measure) (prog
   rejected_typed q a st =
       let t = st.0 in
       let p = t.program_of in
-      let k = arrived_known coding faithful p t.well_typed t.basics t.no_parameters own short st.1.answers st.1.kinds a (typed_known coding faithful p t.well_typed t.basics t.no_parameters own short a st.1) in (
+      let k = arrived_known coding faithful p t.well_typed t.no_parameters own short st.1.answers st.1.kinds a (typed_known coding faithful p t.well_typed t.no_parameters own short a st.1) in (
         t,
-        known_typed coding faithful p t.well_typed t.basics t.no_parameters own short st.1.answers st.1.kinds (with_activation (length a.activations) IsAnswered (arrived a))
-            (set_known coding faithful p t.well_typed t.basics t.no_parameters own short st.1.answers st.1.kinds (arrived a) (length a.activations) IsAnswered k (answered_fine p.types (program p) st.1.answers st.1.kinds a.table)),
+        known_typed coding faithful p t.well_typed t.no_parameters own short st.1.answers st.1.kinds (with_activation (length a.activations) IsAnswered (arrived a))
+            (set_known coding faithful p t.well_typed t.no_parameters own short st.1.answers st.1.kinds (arrived a) (length a.activations) IsAnswered k (answered_fine p.types (program p) st.1.answers st.1.kinds a.table)),
       )
 
   queries : (q : actor.Program kernel) (a : Actor kernel) (r : Result (Effects kernel)) → StateTyped coding (Running q a) → StateTyped coding (Running q (query_outcome (length a.activations) (arrived a) r).next)
   queries q a r st =
       let t = st.0 in
       let p = t.program_of in
-      (t, query_typed coding faithful p t.well_typed t.basics t.no_parameters own short st.1.answers st.1.kinds a (typed_known coding faithful p t.well_typed t.basics t.no_parameters own short a st.1) r)
+      (t, query_typed coding faithful p t.well_typed t.no_parameters own short st.1.answers st.1.kinds a (typed_known coding faithful p t.well_typed t.no_parameters own short a st.1) r)
 
   no_canister_typed : (made : ℕ) (acts : List Standing) → StateTyped coding (NoActor made acts) → StateTyped coding (NoActor made (acts ++ IsAnswered ∷ []))
   no_canister_typed made acts early owner number v q = each_pushed acts IsAnswered (λ x. (n : ℕ) (u : Waiting) → x ≡ WaitsFor n u → n < made) (λ other n u e. early other n u e) (λ n u e. absurd (let z : IsAnswered ≡ WaitsFor n u = e in cc)) owner number v q

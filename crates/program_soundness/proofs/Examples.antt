@@ -28,7 +28,8 @@ use Rattle.typed_tree.specs.ProgramView.{program}
 use Rattle.mo_meaning.specs.Coding.{Coding}
 use Rattle.mo_meaning.specs.Starting.{start}
 use Rattle.program_soundness.specs.Examples.{basic_types, answers, IsStarted}
-use Rattle.program_soundness.specs.Parameters.{HasBasics, HasNoParameters}
+use Rattle.typed_tree.specs.Basics.{HasBasics}
+use Rattle.program_soundness.specs.Parameters.{HasNoParameters}
 
 abbrev head : TypeId → Node TypeId
 head = head_at basic_types
@@ -53,7 +54,7 @@ no_parameter_at (suc (suc (suc (suc n)))) v b e = cc
 pub has_no_parameters : HasNoParameters basic_types
 has_no_parameters t b v e = no_parameter_at t.index v b e
 
-pub has_basics : HasBasics basic_types
+has_basics : HasBasics basic_types
 has_basics = record { flag = record { index = 2 }; is_flag = refl; unit = record { index = 3 }; is_unit = refl; natural = nat; is_natural = refl }
 
 lawful : AreLawful basic_types
@@ -126,6 +127,7 @@ public_five c = record {
 pub is_well_typed : WellTyped answers
 is_well_typed = record {
   types = lawful;
+  basics = has_basics;
   own = Anything;
   methods = Anything ∷ [];
   end = around basic_types Anything (Anything ∷ []) [];

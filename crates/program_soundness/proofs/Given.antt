@@ -20,7 +20,7 @@ use Rattle.mo_soundness.specs.Lawful.{IsLawful}
 use Rattle.mo_soundness.proofs.Graphs.{lawful_graph}
 use Rattle.program_soundness.specs.Agreement.{MessagesAreShareable}
 use Rattle.program_soundness.specs.Bodies.{Shares}
-use Rattle.program_soundness.specs.Parameters.{HasBasics}
+use Rattle.typed_tree.specs.Basics.{HasBasics}
 
 pub lawful_types : (types : List Slot) → AreLawful types → HasBasics types → IsLawful (head_at types)
 lawful_types types h b = lawful_graph types h b.flag b.unit b.natural b.is_flag b.is_unit b.is_natural

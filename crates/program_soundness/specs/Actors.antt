@@ -19,7 +19,7 @@ use Rattle.mo_meaning.specs.Kernel.{kernel, Waiting}
 use Rattle.mo_soundness.specs.Running.{AnswerTypes}
 use Rattle.program_soundness.specs.Agreement.{WaitsOn, Agrees, awaited_by}
 use Rattle.program_soundness.specs.Bodies.{FieldsTyped, WaitingTyped}
-use Rattle.program_soundness.specs.Parameters.{HasBasics, HasNoParameters}
+use Rattle.program_soundness.specs.Parameters.{HasNoParameters}
 
 -- an event as a host gives it: its caller is a principal, its code one of 32 bits, and its text is UTF-8
 abbrev pub IsProper : Event → Type 0
@@ -49,7 +49,6 @@ pub record IsTypedProgram (coding : Coding) (q : actor.Program kernel) : Type 0 
   pub program_of : TypedProgram
   pub first : ℕ
   pub well_typed : WellTyped program_of
-  pub basics : HasBasics program_of.types
   pub no_parameters : HasNoParameters program_of.types
   pub is : q ≡ meaning coding first program_of.types (program program_of)
 

@@ -1,11 +1,8 @@
 -- What is asked of the types of a program here beside what makes it well typed (Motoko language manual, sections "Types" and "Type parameters").
 use Rattle.std.specs.Prelude.{◌≢◌, ℕ, List}
-use Rattle.mo_num.specs.declared.kind.Kind.TheVariants as kind
 use Rattle.mo_types.specs.declared.node.Node.TheVariants as node
 use Rattle.mo_types.specs.declared.node.TypeId.{TypeId}
 use Rattle.mo_types.specs.Graph.{Slot, head_at}
-use Rattle.typed_tree.specs.MemberTypes.{IsUnit, IsNumber}
-use Rattle.typed_tree.specs.OperationTypes.{IsBool}
 use Rattle.typed_tree.specs.Wants.{Want, Generic}
 
 -- no type of the graph is a type parameter
@@ -16,12 +13,3 @@ HasNoParameters types = (t b : TypeId) (v : ℕ) → head_at types t ≢ node.Va
 abbrev pub IsPlain : Want TypeId → Type 0
 IsPlain (Generic vs t) = ⊥
 IsPlain _ = Unit {0}
-
--- Bool, () and Nat are among the types. A type checker gives them to each program.
-pub record HasBasics (types : List Slot) : Type 0 where
-  pub flag : TypeId
-  pub is_flag : IsBool (head_at types) flag
-  pub unit : TypeId
-  pub is_unit : IsUnit (head_at types) unit
-  pub natural : TypeId
-  pub is_natural : IsNumber (head_at types) kind.Nat natural

@@ -46,7 +46,7 @@ ghost use Rattle.program_soundness.specs.Bodies.{BodyFits, EffectsFit, FieldsTyp
 ghost use Rattle.program_soundness.specs.Declared.{Declared};
 ghost use Rattle.program_soundness.specs.Examples.{IsStarted, answers, basic_types};
 ghost use Rattle.program_soundness.specs.Opening.{seen};
-ghost use Rattle.program_soundness.specs.Parameters.{HasBasics, HasNoParameters};
+ghost use Rattle.program_soundness.specs.Parameters.{HasNoParameters};
 ghost use Rattle.program_soundness.specs.Results.{AreResults, GivesResults};
 ghost use Rattle.program_soundness.specs.Roles.{calling};
 ghost use Rattle.program_soundness.specs.Runs.{EndsFit, Gives, IsValueOf, ReturnsOrTraps, RunFits, Stands};
@@ -62,7 +62,7 @@ pub fn patterns_are_typed()
 /// whatever cells there are: each declaration around those behind it, then the functions of the actor at the types of its
 /// methods, and last the cells of the stable variables at theirs. Only in methods calls may be made.
 pub fn declarations_are_typed()
-    ensures { (p : Program) (w : WellTyped p) → HasNoParameters p.types → HasBasics p.types → (answers : AnswerTypes) (kinds : List TypeId) → Declared p.types answers kinds p (seen (around p.types w.own w.methods p.stable)) (program p).body }
+    ensures { (p : Program) (w : WellTyped p) → HasNoParameters p.types → (answers : AnswerTypes) (kinds : List TypeId) → Declared p.types answers kinds p (seen (around p.types w.own w.methods p.stable)) (program p).body }
 {}
 
 /// Values of shareable types have a message. What a message is read as at shareable types has these types.
@@ -81,24 +81,24 @@ pub fn executions_keep_types()
 /// So does a method with arguments of its types, and a body that waited and is given an answer of its type or an error. What it
 /// leaves is typed: the store, the calls, and what waits now.
 pub fn bodies_end_as_typed()
-    ensures ends { (coding : Coding) (p : Program) → WellTyped p → HasBasics p.types → (own : Bytes) (table : CallTable (List TypeId) Given) (answers : AnswerTypes) (kinds : List TypeId) (fields : Fields) (body : Body) (n : ℕ) → answers.may_call ≡ true → FieldsTyped p.types (program p) answers kinds fields → Agrees (head_at p.types) answers kinds table → BodyFits p.types (program p) answers kinds body → EndsFit (surroundings coding p.types own table) (GivesResults (head_at p.types) (results_of body)) (AreResults (head_at p.types) (results_of body)) answers kinds (body_run (surroundings coding p.types own table) fields body n) }
-    ensures left { (coding : Coding) (p : Program) → WellTyped p → HasBasics p.types → (own : Bytes) (table : CallTable (List TypeId) Given) (answers : AnswerTypes) (kinds : List TypeId) (fields : Fields) (body : Body) (n : ℕ) (effects : Effects kernel) → answers.may_call ≡ true → FieldsTyped p.types (program p) answers kinds fields → Agrees (head_at p.types) answers kinds table → BodyFits p.types (program p) answers kinds body → (body_execution (surroundings coding p.types own table) fields body n).completion ≡ Some (Completes effects) → EffectsFit p.types (program p) answers kinds table effects }
+    ensures ends { (coding : Coding) (p : Program) → WellTyped p → (own : Bytes) (table : CallTable (List TypeId) Given) (answers : AnswerTypes) (kinds : List TypeId) (fields : Fields) (body : Body) (n : ℕ) → answers.may_call ≡ true → FieldsTyped p.types (program p) answers kinds fields → Agrees (head_at p.types) answers kinds table → BodyFits p.types (program p) answers kinds body → EndsFit (surroundings coding p.types own table) (GivesResults (head_at p.types) (results_of body)) (AreResults (head_at p.types) (results_of body)) answers kinds (body_run (surroundings coding p.types own table) fields body n) }
+    ensures left { (coding : Coding) (p : Program) → WellTyped p → (own : Bytes) (table : CallTable (List TypeId) Given) (answers : AnswerTypes) (kinds : List TypeId) (fields : Fields) (body : Body) (n : ℕ) (effects : Effects kernel) → answers.may_call ≡ true → FieldsTyped p.types (program p) answers kinds fields → Agrees (head_at p.types) answers kinds table → BodyFits p.types (program p) answers kinds body → (body_execution (surroundings coding p.types own table) fields body n).completion ≡ Some (Completes effects) → EffectsFit p.types (program p) answers kinds table effects }
 {}
 
 /// And so does a start, also over what an upgrade kept: it makes no call and waits on none, and it returns or traps. What it
 /// returns is what the actor exports, over a typed store.
 pub fn starts_end_as_typed()
-    ensures ends { (coding : Coding) → IsFaithful coding → (p : Program) → WellTyped p → HasNoParameters p.types → HasBasics p.types → (own : Bytes) → length own ≤ 29 → (kept : Option Kept) (n : ℕ) → EndsFit (alone coding p.types own) (IsStarting p.types p kept) (AreExports p.types p) quiet [] (turns (alone coding p.types own) n (start_from coding p.types (program p) own kept)) }
-    ensures settles { (coding : Coding) → IsFaithful coding → (p : Program) → WellTyped p → HasNoParameters p.types → HasBasics p.types → (own : Bytes) → length own ≤ 29 → (kept : Option Kept) (n : ℕ) (c : Configuration) (end : End) → turns (alone coding p.types own) n (start_from coding p.types (program p) own kept) ≡ Ended c end → ReturnsOrTraps end }
-    ensures left { (coding : Coding) → IsFaithful coding → (p : Program) → WellTyped p → HasNoParameters p.types → HasBasics p.types → (own : Bytes) → length own ≤ 29 → (kept : Option Kept) (n : ℕ) (fields : Fields) → (start coding p.types (program p) own kept n).completion ≡ Some (Completes fields) → (kinds : List TypeId) × FieldsTyped p.types (program p) (calling quiet) kinds fields }
+    ensures ends { (coding : Coding) → IsFaithful coding → (p : Program) → WellTyped p → HasNoParameters p.types → (own : Bytes) → length own ≤ 29 → (kept : Option Kept) (n : ℕ) → EndsFit (alone coding p.types own) (IsStarting p.types p kept) (AreExports p.types p) quiet [] (turns (alone coding p.types own) n (start_from coding p.types (program p) own kept)) }
+    ensures settles { (coding : Coding) → IsFaithful coding → (p : Program) → WellTyped p → HasNoParameters p.types → (own : Bytes) → length own ≤ 29 → (kept : Option Kept) (n : ℕ) (c : Configuration) (end : End) → turns (alone coding p.types own) n (start_from coding p.types (program p) own kept) ≡ Ended c end → ReturnsOrTraps end }
+    ensures left { (coding : Coding) → IsFaithful coding → (p : Program) → WellTyped p → HasNoParameters p.types → (own : Bytes) → length own ≤ 29 → (kept : Option Kept) (n : ℕ) (fields : Fields) → (start coding p.types (program p) own kept n).completion ≡ Some (Completes fields) → (kinds : List TypeId) × FieldsTyped p.types (program p) (calling quiet) kinds fields }
 {}
 
 /// And so does the hook before an upgrade, over what the actor was: it returns or traps, too. Where it returns, each stable variable
 /// has a value of its type to keep.
 pub fn savings_end_as_typed()
-    ensures ends { (coding : Coding) (p : Program) → WellTyped p → HasBasics p.types → (own : Bytes) (answers : AnswerTypes) (kinds : List TypeId) (fields : Fields) (n : ℕ) → FieldsTyped p.types (program p) answers kinds fields → EndsFit (alone coding p.types own) (GivesResults (head_at p.types) []) (AreResults (head_at p.types) []) (still answers) kinds (turns (alone coding p.types own) n (beginning 0 fields.cells (hook (before_upgrade fields.exports)))) }
-    ensures settles { (coding : Coding) (p : Program) → WellTyped p → HasBasics p.types → (own : Bytes) (answers : AnswerTypes) (kinds : List TypeId) (fields : Fields) (n : ℕ) (c : Configuration) (end : End) → FieldsTyped p.types (program p) answers kinds fields → turns (alone coding p.types own) n (beginning 0 fields.cells (hook (before_upgrade fields.exports))) ≡ Ended c end → ReturnsOrTraps end }
-    ensures saved { (coding : Coding) (p : Program) → WellTyped p → HasBasics p.types → (own : Bytes) (answers : AnswerTypes) (kinds : List TypeId) (fields : Fields) (n : ℕ) (c : Configuration) (v : Value) → FieldsTyped p.types (program p) answers kinds fields → turns (alone coding p.types own) n (beginning 0 fields.cells (hook (before_upgrade fields.exports))) ≡ Ended c (Returns v) → IsSomething (save coding p.types (program p) own fields n).completion }
+    ensures ends { (coding : Coding) (p : Program) → WellTyped p → (own : Bytes) (answers : AnswerTypes) (kinds : List TypeId) (fields : Fields) (n : ℕ) → FieldsTyped p.types (program p) answers kinds fields → EndsFit (alone coding p.types own) (GivesResults (head_at p.types) []) (AreResults (head_at p.types) []) (still answers) kinds (turns (alone coding p.types own) n (beginning 0 fields.cells (hook (before_upgrade fields.exports)))) }
+    ensures settles { (coding : Coding) (p : Program) → WellTyped p → (own : Bytes) (answers : AnswerTypes) (kinds : List TypeId) (fields : Fields) (n : ℕ) (c : Configuration) (end : End) → FieldsTyped p.types (program p) answers kinds fields → turns (alone coding p.types own) n (beginning 0 fields.cells (hook (before_upgrade fields.exports))) ≡ Ended c end → ReturnsOrTraps end }
+    ensures saved { (coding : Coding) (p : Program) → WellTyped p → (own : Bytes) (answers : AnswerTypes) (kinds : List TypeId) (fields : Fields) (n : ℕ) (c : Configuration) (v : Value) → FieldsTyped p.types (program p) answers kinds fields → turns (alone coding p.types own) n (beginning 0 fields.cells (hook (before_upgrade fields.exports))) ≡ Ended c (Returns v) → IsSomething (save coding p.types (program p) own fields n).completion }
 {}
 
 /// The state of an actor whose programs are typed stays typed in every event, wherever executions are exhausted. So it is typed in

@@ -16,6 +16,7 @@ use Rattle.typed_tree.specs.declared.expression.TypedExpression.{roll-TypedExpre
 use Rattle.typed_tree.specs.declared.expression.Function.{roll-Function}
 use Rattle.typed_tree.specs.declared.program.Method.{Method}
 use Rattle.typed_tree.specs.ActionTypes.{Context}
+use Rattle.typed_tree.specs.Basics.{HasBasics}
 use Rattle.typed_tree.specs.Examples.{nat, unit, counter_types, Layer, number, variable, increment, current, increments, inc, first_value, counter}
 use Rattle.typed_tree.specs.Instances.{Mentions}
 use Rattle.typed_tree.specs.Nodes.{StepNodes, form_step, step_step, case_step, function_step, expression_step, in_expression, in_step}
@@ -43,15 +44,17 @@ not_one e = cc
 lawful_at : (n : ℕ) → IsLawfulNode head (at_index n) × HasNoFuture head (at_index n)
 lawful_at zero = (tt, tt)
 lawful_at (suc zero) = (not_one, tt)
-lawful_at (suc (suc n)) = (tt, tt)
+lawful_at (suc (suc zero)) = (tt, tt)
+lawful_at (suc (suc (suc n))) = (tt, tt)
 
 no_parameter_at : (n v : ℕ) (b : TypeId) → at_index n ≡ node.Variable v b → ⊥
 no_parameter_at zero v b e = cc
 no_parameter_at (suc zero) v b e = cc
-no_parameter_at (suc (suc n)) v b e = cc
+no_parameter_at (suc (suc zero)) v b e = cc
+no_parameter_at (suc (suc (suc n))) v b e = cc
 
 lawful : AreLawful counter_types
-lawful = record { defined = (tt, (tt, tt)); nodes = λ t. lawful_at t.index; bounds = λ t u b c v e f. absurd (no_parameter_at t.index v b e); rank = λ v. v; bounds_end = λ t b c v w e f. absurd (no_parameter_at t.index v b e) }
+lawful = record { defined = (tt, (tt, (tt, tt))); nodes = λ t. lawful_at t.index; bounds = λ t u b c v e f. absurd (no_parameter_at t.index v b e); rank = λ v. v; bounds_end = λ t b c v w e f. absurd (no_parameter_at t.index v b e) }
 
 nat_mentions : (vs : List ℕ) (n : ℕ) → Mentions head vs n nat
 unfolding Mentions
@@ -217,9 +220,13 @@ zero_typed = typed nat (number 0) outside (Of nat) (Of nat) refl (nat_in_scope [
 declared : Declares counter_types (roll-Step first_value) outside (CellOf nat ∷ [])
 declared = (rules.steps counter_types first_value outside (CellOf nat ∷ [])).1 (nat, refl, zero_typed, refl)
 
+basics : HasBasics counter_types
+basics = record { flag = record { index = 2 }; is_flag = refl; unit = unit; is_unit = refl; natural = nat; is_natural = refl }
+
 pub counter_is_well_typed : WellTyped counter
 counter_is_well_typed = record {
   types = lawful;
+  basics = basics;
   own = Anything;
   methods = Anything ∷ [];
   end = end;

@@ -15,6 +15,7 @@ use Rattle.mo_types.specs.Values.{IsPartOf}
 use Rattle.typed_tree.specs.declared.expression.Form.{roll-Form, fold-roll-Form}
 use Rattle.typed_tree.specs.declared.expression.TypedExpression.{TypedExpression, fold-roll-TypedExpression}
 use Rattle.typed_tree.specs.ActionTypes.{Context}
+use Rattle.typed_tree.specs.Basics.{HasBasics}
 use Rattle.typed_tree.specs.Examples.{nat, types, Layer, a_nat, body_of, method_of, actor_of, five, a_text, waiting, answers_five, answers_text, query_waits, local_method}
 use Rattle.typed_tree.specs.Instances.{Mentions}
 use Rattle.typed_tree.specs.Nodes.{StepNodes, form_step, step_step, case_step, function_step, expression_step, in_expression}
@@ -42,15 +43,19 @@ at_index n = node_or_bottom (node_of_slot (slice_get types n))
 lawful_at : (n : ℕ) → IsLawfulNode head (at_index n) × HasNoFuture head (at_index n)
 lawful_at zero = (tt, tt)
 lawful_at (suc zero) = (tt, tt)
-lawful_at (suc (suc n)) = (tt, tt)
+lawful_at (suc (suc zero)) = (tt, tt)
+lawful_at (suc (suc (suc zero))) = (λ e. cc, tt)
+lawful_at (suc (suc (suc (suc n)))) = (tt, tt)
 
 no_parameter_at : (n v : ℕ) (b : TypeId) → at_index n ≡ node.Variable v b → ⊥
 no_parameter_at zero v b e = cc
 no_parameter_at (suc zero) v b e = cc
-no_parameter_at (suc (suc n)) v b e = cc
+no_parameter_at (suc (suc zero)) v b e = cc
+no_parameter_at (suc (suc (suc zero))) v b e = cc
+no_parameter_at (suc (suc (suc (suc n)))) v b e = cc
 
 lawful : AreLawful types
-lawful = record { defined = (tt, (tt, tt)); nodes = λ t. lawful_at t.index; bounds = λ t u b c v e f. absurd (no_parameter_at t.index v b e); rank = λ v. v; bounds_end = λ t b c v w e f. absurd (no_parameter_at t.index v b e) }
+lawful = record { defined = (tt, (tt, (tt, (tt, tt)))); nodes = λ t. lawful_at t.index; bounds = λ t u b c v e f. absurd (no_parameter_at t.index v b e); rank = λ v. v; bounds_end = λ t b c v w e f. absurd (no_parameter_at t.index v b e) }
 
 mentions : (vs : List ℕ) (n : ℕ) → Mentions head vs n nat
 unfolding Mentions
@@ -114,9 +119,13 @@ public_five c = record {
   );
 }
 
+basics : HasBasics types
+basics = record { flag = record { index = 2 }; is_flag = refl; unit = record { index = 3 }; is_unit = refl; natural = nat; is_natural = refl }
+
 pub five_is_well_typed : WellTyped answers_five
 five_is_well_typed = record {
   types = lawful;
+  basics = basics;
   own = Anything;
   methods = Anything ∷ [];
   end = around types Anything (Anything ∷ []) [];

@@ -20,6 +20,7 @@ use Rattle.typed_tree.specs.declared.pattern.PatternForm.TheOpen as P
 use Rattle.typed_tree.specs.declared.pattern.PatternForm.TheVariants as p
 use Rattle.typed_tree.specs.declared.program.Method.{Method}
 use Rattle.typed_tree.specs.ActionTypes.{Context}
+use Rattle.typed_tree.specs.Basics.{HasBasics}
 use Rattle.typed_tree.specs.Examples.{nat, any, parameter, identity, on_nats, generic_types, Layer, number, bound_to, the_parameter, id, at_nat, calls, a_nat, body_of, method_of, uses_generic}
 use Rattle.typed_tree.specs.Instances.{Mentions, PutIn, IsInstance, AreWithinBounds}
 use Rattle.typed_tree.specs.Nodes.{StepNodes, form_step, step_step, case_step, function_step, expression_step, in_expression, in_step, in_pattern}
@@ -49,7 +50,9 @@ lawful_at (suc zero) = (tt, tt)
 lawful_at (suc (suc zero)) = (tt, (refl, tt))
 lawful_at (suc (suc (suc zero))) = (refl, (refl, (refl, tt)))
 lawful_at (suc (suc (suc (suc zero)))) = (refl, (refl, (refl, tt)))
-lawful_at (suc (suc (suc (suc (suc n))))) = (tt, tt)
+lawful_at (suc (suc (suc (suc (suc zero))))) = (tt, tt)
+lawful_at (suc (suc (suc (suc (suc (suc zero)))))) = (λ e. cc, tt)
+lawful_at (suc (suc (suc (suc (suc (suc (suc n))))))) = (tt, tt)
 
 abbrev bound_of : Node TypeId → TypeId
 bound_of (node.Variable v b) = b
@@ -62,14 +65,16 @@ bounded_at (suc zero) v b e = cc
 bounded_at (suc (suc zero)) v b e = ap bound_of e
 bounded_at (suc (suc (suc zero))) v b e = cc
 bounded_at (suc (suc (suc (suc zero)))) v b e = cc
-bounded_at (suc (suc (suc (suc (suc n))))) v b e = cc
+bounded_at (suc (suc (suc (suc (suc zero))))) v b e = cc
+bounded_at (suc (suc (suc (suc (suc (suc zero)))))) v b e = cc
+bounded_at (suc (suc (suc (suc (suc (suc (suc n))))))) v b e = cc
 
 any_is_no_parameter : (w : ℕ) (c : TypeId) → head any ≡ node.Variable w c → ⊥
 any_is_no_parameter w c e = cc
 
 lawful : AreLawful generic_types
 lawful = record {
-  defined = (tt, (tt, ((omega arith, tt), ((omega arith, (omega arith, tt)), ((omega arith, (omega arith, tt)), tt)))));
+  defined = (tt, (tt, ((omega arith, tt), ((omega arith, (omega arith, tt)), ((omega arith, (omega arith, tt)), (tt, (tt, tt)))))));
   nodes = λ t. lawful_at t.index;
   bounds = λ t u b c v e f. sym (bounded_at t.index v b e) ∙ bounded_at u.index v c f;
   rank = λ v. v;
@@ -286,9 +291,13 @@ public = record {
   );
 }
 
+basics : HasBasics generic_types
+basics = record { flag = record { index = 5 }; is_flag = refl; unit = record { index = 6 }; is_unit = refl; natural = nat; is_natural = refl }
+
 pub generic_is_well_typed : WellTyped uses_generic
 generic_is_well_typed = record {
   types = lawful;
+  basics = basics;
   own = Anything;
   methods = Anything ∷ [];
   end = end;

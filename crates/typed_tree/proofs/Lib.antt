@@ -8,6 +8,7 @@ pub mod Views
 pub mod StandingEquations
 pub mod TypingEquations
 pub mod Rules
+pub mod OwnLabels
 pub mod Examples
 pub mod Counter
 pub mod Generic

@@ -30,7 +30,7 @@ abbrev pub text : TypeId
 text = record { index = 1 }
 
 abbrev pub types : List Slot
-types = Interned (node.Number kind.Nat) ∷ Interned node.Text ∷ []
+types = Interned (node.Number kind.Nat) ∷ Interned node.Text ∷ Interned node.Bool ∷ Interned (node.Tuple []) ∷ []
 
 abbrev pub Layer : Type 0
 Layer = F.Form-F Form Step Case Function TypedExpression
@@ -80,7 +80,7 @@ abbrev pub unit : TypeId
 unit = record { index = 1 }
 
 abbrev pub counter_types : List Slot
-counter_types = Interned (node.Number kind.Nat) ∷ Interned (node.Tuple []) ∷ []
+counter_types = Interned (node.Number kind.Nat) ∷ Interned (node.Tuple []) ∷ Interned node.Bool ∷ []
 
 abbrev pub a_unit : Layer → TypedExpression
 a_unit x = roll-TypedExpression (record { of_type = unit; form = roll-Form x })
@@ -138,7 +138,8 @@ on_nats = record { index = 4 }
 abbrev pub generic_types : List Slot
 generic_types =
     Interned (node.Number kind.Nat) ∷ Interned node.Any ∷ Interned (node.Variable 7 any)
-    ∷ Interned (node.Func sort.Local (parameter ∷ []) (parameter ∷ [])) ∷ Interned (node.Func sort.Local (nat ∷ []) (nat ∷ [])) ∷ []
+    ∷ Interned (node.Func sort.Local (parameter ∷ []) (parameter ∷ [])) ∷ Interned (node.Func sort.Local (nat ∷ []) (nat ∷ []))
+    ∷ Interned node.Bool ∷ Interned (node.Tuple []) ∷ []
 
 abbrev pub bound_to : TypeId → P.TypedPattern-F PatternForm PatternField TypedPattern
 bound_to t = record { of_type = t; form = roll-PatternForm P.Bind }

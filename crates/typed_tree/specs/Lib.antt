@@ -24,6 +24,7 @@ pub mod PatternTypes
 pub mod Typing
 pub mod TypingLaws
 pub mod Types
+pub mod Basics
 pub mod WellTyped
 pub mod PlacingRows
 pub mod PatternRows

@@ -17,6 +17,7 @@ use Rattle.typed_tree.specs.declared.program.Program.{Program}
 use Rattle.typed_tree.specs.declared.program.Method.{Method}
 use Rattle.typed_tree.specs.declared.program.StableVariable.{StableVariable}
 use Rattle.typed_tree.specs.ActionTypes.{Context, ResultOf}
+use Rattle.typed_tree.specs.Basics.{HasBasics}
 use Rattle.typed_tree.specs.MemberTypes.{IsUnit}
 use Rattle.typed_tree.specs.Nodes.{in_list}
 use Rattle.typed_tree.specs.OperationTypes.{Distinct}
@@ -99,6 +100,7 @@ behind p c = with_names (copies (length (functions_of p)) Anything) c
 
 pub record WellTyped (p : Program) : Type 0 where
   pub types : AreLawful p.types
+  pub basics : HasBasics p.types
   pub own : Want TypeId
   pub methods : List (Want TypeId)
   pub end : Context

@@ -1,4 +1,4 @@
-use Rattle.pattern_coverage.proofs.Lawful.{labels_own}
+use Rattle.typed_tree.proofs.OwnLabels.{labels_own}
 use Rattle.pattern_coverage.proofs.Tables.{rules, tells}
 use Rattle.mo_types.specs.Graph.{head_at}
 use Rattle.pattern_coverage.proofs.laws.closed_tables_tell_what_has_values.Goals as goal

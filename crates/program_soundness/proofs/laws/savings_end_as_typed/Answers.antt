@@ -13,14 +13,14 @@ use Rattle.std.proofs.Common.{[], refl}
 use Rattle.program_soundness.proofs.laws.savings_end_as_typed.Goals as goal
 
 pub returns-clause-ends : goal.returns-clause-ends
-returns-clause-ends c = λ coding p w basics own answers kinds fields n typed.
-    hook_run_ends coding p.types (program p) (lawful_types p.types w.types basics) (messages_shareable p.types w.types) own answers kinds fields typed n
+returns-clause-ends c = λ coding p w own answers kinds fields n typed.
+    hook_run_ends coding p.types (program p) (lawful_types p.types w.types w.basics) (messages_shareable p.types w.types) own answers kinds fields typed n
 
 pub returns-clause-saved : goal.returns-clause-saved
-returns-clause-saved c = λ coding p w basics own answers kinds fields n c v typed q.
-    hook_saves coding p.types (program p) (lawful_types p.types w.types basics) (messages_shareable p.types w.types) (program_shares p w).stable own answers kinds fields typed n c v q
+returns-clause-saved c = λ coding p w own answers kinds fields n c v typed q.
+    hook_saves coding p.types (program p) (lawful_types p.types w.types w.basics) (messages_shareable p.types w.types) (program_shares p w).stable own answers kinds fields typed n c v q
 
 pub returns-clause-settles : goal.returns-clause-settles
-returns-clause-settles c = λ coding p w basics own answers kinds fields n c end typed q.
+returns-clause-settles c = λ coding p w own answers kinds fields n c end typed q.
     run_quiet (alone coding p.types own) (GivesResults (head_at p.types) []) (AreResults (head_at p.types) []) (turns (alone coding p.types own) n (beginning 0 fields.cells (hook (before_upgrade fields.exports)))) c end (still answers) kinds refl
-    (hook_run_ends coding p.types (program p) (lawful_types p.types w.types basics) (messages_shareable p.types w.types) own answers kinds fields typed n) q
+    (hook_run_ends coding p.types (program p) (lawful_types p.types w.types w.basics) (messages_shareable p.types w.types) own answers kinds fields typed n) q
