@@ -1,10 +1,10 @@
 //! Rounds of lexing and parsing, by the clock.
+use crate::fault::lacking;
 use crate::front_source::large_source;
 use mo_lexer::lex;
 use mo_parser::parse;
 use std::alloc::Global;
 use std::io;
-use std::io::ErrorKind;
 use std::time::{Duration, Instant};
 
 // Measurements, of which the fastest counts.
@@ -12,7 +12,9 @@ const TRIES: u32 = 10;
 
 /// Prints a line for each pass with its bytes per second.
 pub fn all(rt: &HostRuntime, alloc: Global) -> io::Result<()> {
-    let source = large_source(alloc).map_err(|_| io::Error::from(ErrorKind::OutOfMemory))?;
+    let Ok(source) = large_source(alloc) else {
+        return Err(lacking());
+    };
     let mut lexing = Duration::MAX;
     let mut parsing = Duration::MAX;
     let mut count = 0;

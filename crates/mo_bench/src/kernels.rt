@@ -1,12 +1,12 @@
 //! Rounds of each kernel and of its plain loop, and of reading numbers, by the clock.
 ghost use Rattle.std.specs.Prelude.{◌≡◌, ◌≤◌, ◌<◌, IfOk, length, vec_len};
 
+use crate::fault::lacking;
 use crate::kernels_plain as plain;
 use byte_lanes::{ascii_prefix, first_difference, line_starts};
 use mo_num::{Bytes, Memory, leb_read, leb_write};
 use std::alloc::{AllocError, Global};
 use std::io;
-use std::io::ErrorKind;
 use std::time::{Duration, Instant};
 
 // Bytes in the text.
@@ -122,7 +122,9 @@ fn starts(rt: &HostRuntime, alloc: Global, bytes: &mut [u8]) -> io::Result<()>
 
 // Reads numbers of one to five bytes each, one behind another.
 fn numbers(rt: &HostRuntime, alloc: Global) -> io::Result<()> {
-    let spelled = spelled(alloc).map_err(|_| io::Error::from(ErrorKind::OutOfMemory))?;
+    let Ok(spelled) = spelled(alloc) else {
+        return Err(lacking());
+    };
     let mut fast = Duration::MAX;
     let mut count = 0u64;
     for _ in 0..TRIES {

@@ -2,11 +2,11 @@
 ghost use Rattle.std.specs.Prelude.{◌≡◌, IfOk};
 ghost use Rattle.wasm_instance.specs.Fits.{IsInstanceOf};
 
+use crate::fault::{invalid, lacking};
 use crate::machine_method::run;
 use mo_num::{Principal, principal_of};
 use module_entries::exported;
 use std::alloc::Global;
-use std::io::ErrorKind;
 use std::time::{Duration, Instant};
 use std::{fs, io};
 use wasm_instance::{Instance, Limits, Outcome};
@@ -23,17 +23,14 @@ const LIMITS: Limits = Limits {
     stack: 4_194_304,
 };
 
-fn lacking() -> io::Error {
-    io::Error::from(ErrorKind::OutOfMemory)
-}
-
-fn invalid() -> io::Error {
-    io::Error::from(ErrorKind::InvalidData)
-}
-
 fn judged(alloc: Global, bytes: &[u8]) -> io::Result<Valid> {
-    let tree = read(alloc, bytes).map_err(|_| invalid())?;
-    validate(alloc, tree).map_err(|_| invalid())
+    let Ok(tree) = read(alloc, bytes) else {
+        return Err(invalid());
+    };
+    match validate(alloc, tree) {
+        Ok(valid) => Ok(valid),
+        Err(_) => Err(invalid()),
+    }
 }
 
 fn module_of(rt: &HostRuntime, alloc: Global, file: &str) -> io::Result<Valid> {
@@ -44,7 +41,9 @@ fn module_of(rt: &HostRuntime, alloc: Global, file: &str) -> io::Result<Valid> {
 fn loaded(alloc: Global, tree: &Valid) -> io::Result<Instance>
     ensures { IfOk result (λ instance. IsInstanceOf tree.now instance.kept) }
 {
-    let mut instance = Instance::new(alloc, LIMITS).map_err(|_| lacking())?;
+    let Ok(mut instance) = Instance::new(alloc, LIMITS) else {
+        return Err(lacking());
+    };
     if instance.load(tree).is_err() {
         return Err(invalid());
     }
@@ -95,7 +94,9 @@ fn method(
     let mut done = true;
     for _ in 0..TRIES {
         let start = Instant::now(rt)?;
-        let outcome = run(alloc, tree, instance, function, nobody).map_err(|_| lacking())?;
+        let Ok(outcome) = run(alloc, tree, instance, function, nobody) else {
+            return Err(lacking());
+        };
         time = time.min(start.elapsed(rt)?);
         done = done && outcome == Outcome::Done;
     }

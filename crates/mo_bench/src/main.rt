@@ -1,6 +1,7 @@
 //! Measures the parts of the program on large inputs, by the clock.
 #![tactic(auto)]
 
+mod fault;
 mod front;
 mod front_source;
 mod kernels;

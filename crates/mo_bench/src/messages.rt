@@ -1,24 +1,24 @@
 //! Messages, by the clock.
+use crate::fault::lacking;
 use crate::message_values::{Sample, records, text};
 use candid_decode::decode;
 use candid_encode::encode_checked;
 use std::alloc::Global;
 use std::io;
-use std::io::ErrorKind;
 use std::time::{Duration, Instant};
 
 // Measurements, of which the fastest counts.
 const TRIES: u32 = 10;
 
-fn lacking() -> io::Error {
-    io::Error::from(ErrorKind::OutOfMemory)
-}
-
 /// Prints a line for each direction of each message.
 pub fn all(rt: &HostRuntime, alloc: Global) -> io::Result<()> {
-    let list = records(alloc, 100_000).ok_or_else(lacking)?;
+    let Some(list) = records(alloc, 100_000) else {
+        return Err(lacking());
+    };
     report(rt, alloc, "100000 records", &list)?;
-    let letters = text(alloc, 2_097_152).ok_or_else(lacking)?;
+    let Some(letters) = text(alloc, 2_097_152) else {
+        return Err(lacking());
+    };
     report(rt, alloc, "a text of 2 MiB", &letters)
 }
 
@@ -29,9 +29,9 @@ fn report(rt: &HostRuntime, alloc: Global, name: &str, sample: &Sample) -> io::R
     let mut size = 0;
     for _ in 0..TRIES {
         let start = Instant::now(rt)?;
-        let message = encode_checked(alloc, types, ids, sample.values.as_slice()).map_err(
-            |_| lacking(),
-        )?;
+        let Ok(message) = encode_checked(alloc, types, ids, sample.values.as_slice()) else {
+            return Err(lacking());
+        };
         writing = writing.min(start.elapsed(rt)?);
         let start = Instant::now(rt)?;
         if decode(alloc, types, ids, message.as_slice()).is_ok() {

@@ -3,10 +3,10 @@ ghost use Rattle.std.specs.Prelude.{IfOk};
 ghost use Rattle.wasm_tree.specs.Spelling.{HasSpelling};
 ghost use Rattle.wasm_tree.specs.Binary.{Written};
 
+use crate::fault::{invalid, lacking};
 use crate::modules_large::large_module;
-use mo_num::{Bytes, Memory};
+use mo_num::Bytes;
 use std::alloc::Global;
-use std::io::ErrorKind;
 use std::time::{Duration, Instant};
 use std::{fs, io};
 use wasm_read::read;
@@ -26,20 +26,22 @@ struct Times {
     agree: bool,
 }
 
-fn lacking(_: Memory) -> io::Error {
-    io::Error::from(ErrorKind::OutOfMemory)
-}
-
 fn tree_of(alloc: Global, bytes: &[u8]) -> io::Result<Module>
     ensures { IfOk result (λ tree. Written tree bytes.now) }
 {
-    read(alloc, bytes).map_err(|_| io::Error::from(ErrorKind::InvalidData))
+    match read(alloc, bytes) {
+        Ok(tree) => Ok(tree),
+        Err(_) => Err(invalid()),
+    }
 }
 
 fn written_of(alloc: Global, tree: &Module) -> io::Result<Bytes>
     requires { HasSpelling (Written tree.now) }
 {
-    write(alloc, tree).map_err(lacking)
+    match write(alloc, tree) {
+        Ok(bytes) => Ok(bytes),
+        Err(_) => Err(lacking()),
+    }
 }
 
 fn time_reading(rt: &HostRuntime, alloc: Global, bytes: &[u8]) -> io::Result<Duration> {
@@ -58,7 +60,9 @@ fn time_writing(rt: &HostRuntime, alloc: Global, tree: &Module) -> io::Result<Du
 
 fn time_validating(rt: &HostRuntime, alloc: Global, tree: Module) -> io::Result<Duration> {
     let start = Instant::now(rt)?;
-    let _valid = validate(alloc, tree).map_err(|_| io::Error::from(ErrorKind::InvalidData))?;
+    let Ok(_valid) = validate(alloc, tree) else {
+        return Err(invalid());
+    };
     start.elapsed(rt)
 }
 
@@ -97,7 +101,9 @@ fn rounds(rt: &HostRuntime, alloc: Global, bytes: &[u8]) -> io::Result<()> {
 
 /// Writes the module to the file, for other tools, and prints a line for each call with its bytes per second.
 pub fn all(rt: &HostRuntime, alloc: Global, file: &str) -> io::Result<()> {
-    let bytes = large_module(alloc).map_err(lacking)?;
+    let Ok(bytes) = large_module(alloc) else {
+        return Err(lacking());
+    };
     fs::write(rt, file, bytes.as_slice())?;
     rounds(rt, alloc, bytes.as_slice())
 }

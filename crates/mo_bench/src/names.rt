@@ -1,4 +1,5 @@
 //! Rounds of the resolution of names, by the clock.
+use crate::fault::lacking;
 use crate::names_source::source_of;
 use mo_lexer::lex;
 use mo_order::resolve;
@@ -6,7 +7,6 @@ use mo_parser::parse;
 use mo_syntax::Tree;
 use std::alloc::Global;
 use std::io;
-use std::io::ErrorKind;
 use std::time::{Duration, Instant};
 
 // Measurements, of which the fastest counts.
@@ -35,7 +35,7 @@ pub fn all(rt: &HostRuntime, alloc: Global) -> io::Result<()> {
 
 fn one_size(rt: &HostRuntime, alloc: Global, rounds: u32) -> io::Result<()> {
     let Some(tree) = tree_of(alloc, rounds) else {
-        return Err(io::Error::from(ErrorKind::OutOfMemory));
+        return Err(lacking());
     };
     let mut fastest = Duration::MAX;
     for _ in 0..TRIES {

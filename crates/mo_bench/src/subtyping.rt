@@ -1,9 +1,9 @@
 //! Questions, by the clock.
+use crate::fault::lacking;
 use crate::subtyping_question::{Question, lists, objects};
 use mo_subtype::{Verdict, subtype};
 use std::alloc::Global;
 use std::io;
-use std::io::ErrorKind;
 use std::time::{Duration, Instant};
 
 // Measurements, of which the fastest counts.
@@ -21,7 +21,9 @@ pub fn all(rt: &HostRuntime, alloc: Global) -> io::Result<()> {
 
 // Asks whether one list is below another that has as many types in all.
 fn report_lists(rt: &HostRuntime, alloc: Global, low: u32, high: u32) -> io::Result<()> {
-    let question = lists(alloc, low, high).map_err(|_| io::Error::from(ErrorKind::OutOfMemory))?;
+    let Ok(question) = lists(alloc, low, high) else {
+        return Err(lacking());
+    };
     let (micros, pairs) = measured(rt, alloc, &question)?;
     let nodes = question.types.len();
     println!(rt; "{nodes} types, {pairs} pairs: {micros} µs")
@@ -29,7 +31,9 @@ fn report_lists(rt: &HostRuntime, alloc: Global, low: u32, high: u32) -> io::Res
 
 // Asks whether one object is below another of as many fields.
 fn report_objects(rt: &HostRuntime, alloc: Global, fields: u32) -> io::Result<()> {
-    let question = objects(alloc, fields).map_err(|_| io::Error::from(ErrorKind::OutOfMemory))?;
+    let Ok(question) = objects(alloc, fields) else {
+        return Err(lacking());
+    };
     let (micros, pairs) = measured(rt, alloc, &question)?;
     println!(rt; "2 objects of {fields} fields, {pairs} pairs: {micros} µs")
 }

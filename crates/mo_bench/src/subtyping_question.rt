@@ -66,7 +66,9 @@ fn object_of(
 }
 
 fn field(alloc: Global, number: u32, part: TypeId) -> Result<Field, TypesFault> {
-    let label = format!(in alloc; "field_{number}").map_err(|_| TypesFault::Memory)?;
+    let Ok(label) = format!(in alloc; "field_{number}") else {
+        return Err(TypesFault::Memory);
+    };
     Ok(Field {
         label: Bytes::from_vec(label.into_bytes()),
         mutable: false,
