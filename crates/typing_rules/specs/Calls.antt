@@ -13,7 +13,7 @@ use Rattle.typing_rules.specs.Terms.{Term, zipped, with_arguments}
 use Rattle.typing_rules.specs.Terms as t
 use Rattle.typing_rules.specs.Definitions.{Definitions, bound_at}
 use Rattle.typing_rules.specs.Heads.{head, result}
-use Rattle.typing_rules.specs.Judgements.{Question, Judgement, Gives, Part, Tests, NeedsEach, IsBelow}
+use Rattle.typing_rules.specs.Judgements.{Question, Judgement, Gives, Part, Tests, MeetsEach, NeedsEach, IsBelow}
 use Rattle.typing_rules.specs.TypeScopes.{TypeScope}
 use Rattle.typing_rules.specs.Types.{ReadsEach}
 use Rattle.typing_rules.specs.Contexts.{Context, Bound, value_named, module_member}
@@ -48,7 +48,11 @@ called sort.Local results = result results
 called _ results = t.Async (result results)
 
 module _ (defs : Definitions) where
-  -- each argument is below its bound, in which all arguments are put
+  -- the bounds of parameters, in which all arguments are put
+  abbrev pub bound_terms : List (ℕ × Term) → List (ℕ × Term) → List Term
+  bound_terms all arguments = map (λ q. with_arguments all (bound_at defs.parameters q.0)) arguments
+
+  -- each argument is below its bound
   abbrev pub bound_questions : List (ℕ × Term) → List (ℕ × Term) → List Question
   bound_questions all arguments = map (λ q. IsBelow q.1 (with_arguments all (bound_at defs.parameters q.0))) arguments
 
@@ -56,7 +60,8 @@ module _ (defs : Definitions) where
   abbrev pub Instance : ℕ → TypeScope → Bound → List TypeNode → Judgement Term
   Instance at s b types =
       Tests condition.TypeArguments at (nat_eq (length types) (length b.generics)) (Part (ReadsEach defs s types) (λ us.
-      NeedsEach condition.Bound at (bound_questions (zipped b.generics us) (zipped b.generics us)) (Gives (with_arguments (zipped b.generics us) b.type))))
+      MeetsEach (bound_terms (zipped b.generics us) (zipped b.generics us))
+      (NeedsEach condition.Bound at (bound_questions (zipped b.generics us) (zipped b.generics us)) (Gives (with_arguments (zipped b.generics us) b.type)))))
 
   -- ---- `next : () -> ?T`
 

@@ -1,7 +1,7 @@
 -- Type definitions, and what the use of a defined name stands for (Motoko language manual, section "Type declarations": a definition whose right side is a
 -- name stands for what that name stands for).
 use Rattle.std.specs.Prelude.{ℕ, zero, suc, List, [], ◌∷◌, ◌++◌, length, Option, Some, None, cond, nat_eq}
-use Rattle.typing_rules.specs.Terms.{Term, Terms, Parameter, Use, Nil, Cons, Any, Bottom, listed, with_arguments, zipped}
+use Rattle.typing_rules.specs.Terms.{Term, Terms, Parameter, Use, Nil, Cons, Any, Bottom, put_in, argument_of}
 
 -- a type definition or class: the number of its name, the parameters in scope there and then its own, and the type on its right side
 pub record Definition : Type 0 where
@@ -29,11 +29,16 @@ bound_at [] at = Any
 bound_at (b ∷ bs) at = cond (nat_eq b.at at) b.bound (bound_at bs at)
 
 -- What a use stands for, where its definition stands for this. A parameter of the definition leads on to its argument.
-abbrev pub at_reached : List (ℕ × Term) → List (ℕ × Option Term) → Option Term → Option Term
+abbrev pub at_reached : (ℕ → Term) → (ℕ → Option Term) → Option Term → Option Term
 at_reached s reached None = None
-at_reached s [] (Some (Parameter at)) = Some (Parameter at)
-at_reached s (x ∷ xs) (Some (Parameter at)) = cond (nat_eq x.0 at) x.1 (at_reached s xs (Some (Parameter at)))
-at_reached s reached (Some t) = Some (with_arguments s t)
+at_reached s reached (Some (Parameter at)) = reached at
+at_reached s reached (Some t) = Some (put_in s t)
+
+-- what is found of a parameter's argument
+abbrev pub found_of : List ℕ → List (Option Term) → ℕ → Option Term
+found_of [] found at = Some Bottom
+found_of (p ∷ ps) [] at = Some Bottom
+found_of (p ∷ ps) (o ∷ os) at = cond (nat_eq p at) o (found_of ps os at)
 
 abbrev pub parameters_of : Option Definition → List ℕ
 parameters_of None = []
@@ -44,8 +49,8 @@ module _ (types : List Definition) where
     abbrev mutual
       pub followed : Term → Option Term
       followed (Use at arguments) =
-          at_reached (zipped (parameters_of (definition_at types at)) (listed arguments))
-          (zipped (parameters_of (definition_at types at)) (each_followed arguments)) (below at)
+          at_reached (argument_of (parameters_of (definition_at types at)) arguments)
+          (found_of (parameters_of (definition_at types at)) (each_followed arguments)) (below at)
       followed t = Some t
 
       pub each_followed : Terms → List (Option Term)

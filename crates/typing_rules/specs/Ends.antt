@@ -21,7 +21,7 @@ Has at w u f = Meets u (BelowWanted at w u (typed at u f))
 
 -- a jump, whose label or result takes ()
 abbrev pub Leaves : ℕ → Option Term → Term → Form Note → Judgement Typed
-Leaves at w u f = Needs condition.Mismatch at (IsBelow unit u) (Has at w t.Bottom f)
+Leaves at w u f = Meets unit (Needs condition.Mismatch at (IsBelow unit u) (Has at w t.Bottom f))
 
 -- the first of the types that all others are below
 abbrev pub FirstAbove : Condition → ℕ → List Term → List Term → Judgement Term

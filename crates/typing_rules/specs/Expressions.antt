@@ -102,7 +102,7 @@ module _ (defs : Definitions) where
         (λ _. Part (Judge e a None) (λ b. Has at w (t.Optional (type_of b)) (p.Optional b)))
     Rule o e at (p.Tag x) w =
         Case (wanted defs variant_of w)
-        (λ q. Given condition.Mismatch at (find x q.1) (λ f. Needs condition.Mismatch at (IsBelow unit f.part) (Gives (typed at q.0 (p.Tag x)))))
+        (λ q. Given condition.Mismatch at (find x q.1) (λ f. Meets unit (Needs condition.Mismatch at (IsBelow unit f.part) (Gives (typed at q.0 (p.Tag x))))))
         (λ _. Has at w (t.Variant (t.constant x unit t.NoFields)) (p.Tag x))
     Rule o e at (p.Tagged x a) w =
         Case (wanted defs variant_of w)
@@ -168,15 +168,15 @@ module _ (defs : Definitions) where
     Rule o e at (p.Switch a cases) w =
         Part (Judge e a None) (λ b. Part (JudgeCases e cases (type_of b) w) (λ cs. Branches at w (case_types cs) (p.Switch b cs)))
     Rule o e at (p.Try a q b) w =
-        Tests condition.AsyncPlace at (waits e.body) (Part (Judge e a w) (λ x. Part (Stands defs e.types q t.Error) (λ r.
-        Part (Judge (with_values r.0 e) b w) (λ y. Branches at w (type_of x ∷ type_of y ∷ []) (p.Try x r.1 y)))))
+        Tests condition.AsyncPlace at (waits e.body) (Part (Judge e a w) (λ x. Meets t.Error (Part (Stands defs e.types q t.Error) (λ r.
+        Part (Judge (with_values r.0 e) b w) (λ y. Branches at w (type_of x ∷ type_of y ∷ []) (p.Try x r.1 y))))))
     -- `while`, `for`, `loop N while C`, `loop N`: N fits (). They give (); `loop N` gives None. `for` takes an object with `next : () -> ?T`.
     Rule o e at (p.While c a) w = Part (Judge e c (Some t.Boolean)) (λ d. Part (Judge e a (Some unit)) (λ b. Has at w unit (p.While d b)))
     Rule o e at (p.Loop a) w = Part (Judge e a (Some unit)) (λ b. Has at w t.Bottom (p.Loop b))
     Rule o e at (p.LoopWhile a c) w = Part (Judge e a (Some unit)) (λ b. Part (Judge e c (Some t.Boolean)) (λ d. Has at w unit (p.LoopWhile b d)))
     Rule o e at (p.For q a b) w =
-        Part (Judge e a None) (λ x. Given condition.NotIterable at (items_of defs (members_head defs (type_of x))) (λ u. Part (Stands defs e.types q u) (λ r.
-        Part (Judge (with_values r.0 e) b (Some unit)) (λ y. Has at w unit (p.For r.1 x y)))))
+        Part (Judge e a None) (λ x. Given condition.NotIterable at (items_of defs (members_head defs (type_of x))) (λ u. Meets u (Part (Stands defs e.types q u) (λ r.
+        Part (Judge (with_values r.0 e) b (Some unit)) (λ y. Has at w unit (p.For r.1 x y))))))
     -- `label l : T N`: N fits T, by default (), gives T. `break`, `continue`, `return` and `throw` give None; values fit the label's or result type, `throw`
     -- Error. `continue` names a loop directly under its label.
     Rule o e at (p.Label x u a) w =

@@ -7,7 +7,7 @@ use Rattle.typing_rules.specs.Terms.{Term}
 
 -- what a rule asks
 pub data Question : Type 0 where
-  -- t is a subtype of u
+  -- t is a subtype of u; both were met before
   IsBelow : (t u : Term) → Question
   IsShareable : (t : Term) → Question
   -- shareable, without Any: for `==`
@@ -53,6 +53,11 @@ module _ {A : Type 0} where
   -- the condition c at the place, that the answer is yes, and then j
   abbrev pub Needs : Condition → ℕ → Question → Judgement A → Judgement A
   Needs c place q j = Asks q (λ yes. Tests c place yes j)
+
+  -- types that are met one after the other
+  abbrev pub MeetsEach : List Term → Judgement A → Judgement A
+  MeetsEach [] j = j
+  MeetsEach (t ∷ ts) j = Meets t (MeetsEach ts j)
 
   -- the same of each of several questions
   abbrev pub NeedsEach : Condition → ℕ → List Question → Judgement A → Judgement A

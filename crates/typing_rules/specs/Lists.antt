@@ -6,7 +6,7 @@ use Rattle.typing_rules.specs.AbstractSyntax.{Declaration, Declarations}
 use Rattle.typing_rules.specs.AbstractSyntax as p
 use Rattle.typing_rules.specs.Terms.{Term, unit}
 use Rattle.typing_rules.specs.Definitions.{Definitions}
-use Rattle.typing_rules.specs.Judgements.{Judgement, Gives, Fails, Part, Needs, IsBelow, IsShareable}
+use Rattle.typing_rules.specs.Judgements.{Judgement, Gives, Fails, Meets, Part, Needs, IsBelow, IsShareable}
 use Rattle.typing_rules.specs.DeclaredTypes.{with_list}
 use Rattle.typing_rules.specs.Contexts.{Context, Scope, with_values, with_types}
 use Rattle.typing_rules.specs.Signatures.{Signatures, DefinitionsOf}
@@ -43,8 +43,8 @@ of_expression false rest w = Some unit
 -- A list gives its last expression's type. One whose last declaration is no expression gives ().
 abbrev pub EndsList : ℕ → Option Term → Option Term → Judgement Term
 EndsList at (Some u) w = Gives u
-EndsList at None None = Gives unit
-EndsList at None (Some u) = Needs condition.Mismatch at (IsBelow unit u) (Gives unit)
+EndsList at None None = Meets unit (Gives unit)
+EndsList at None (Some u) = Meets unit (Needs condition.Mismatch at (IsBelow unit u) (Gives unit))
 
 -- the next of the declarations that were evaluated; there is one for each in the list
 abbrev pub TakesMade : List Made → Judgement (Made × List Made)

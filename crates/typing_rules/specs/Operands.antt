@@ -7,7 +7,7 @@ use Rattle.typing_rules.specs.Terms.{Term}
 use Rattle.typing_rules.specs.Terms as t
 use Rattle.typing_rules.specs.Definitions.{Definitions}
 use Rattle.typing_rules.specs.Heads.{head}
-use Rattle.typing_rules.specs.Judgements.{Judgement, Gives, Part, If, Case, Given, Tests, Needs, AsksEither, IsBelow, IsComparable}
+use Rattle.typing_rules.specs.Judgements.{Judgement, Gives, Meets, Part, If, Case, Given, Tests, Needs, AsksEither, IsBelow, IsComparable}
 use Rattle.typing_rules.specs.TypedTrees.{Typed, Judged, typed, type_of, subsumed}
 use Rattle.typing_rules.specs.Ends.{wanted, Has, Greatest}
 use Rattle.typing_rules.specs.Literals.{Written, own_type, has_own, may_have}
@@ -34,7 +34,7 @@ module _ (defs : Definitions) where
   abbrev pub LiteralOperand : ℕ → Written → Judged → Term → Judgement Typed
   LiteralOperand at l j u =
       If (has_own l)
-      (λ _. AsksEither (IsBelow (own_type l) u) (IsBelow u (own_type l)) (λ yes. If yes (λ _. j None) (λ _. OtherOperand at l j u)))
+      (λ _. Meets (own_type l) (AsksEither (IsBelow (own_type l) u) (IsBelow u (own_type l)) (λ yes. If yes (λ _. j None) (λ _. OtherOperand at l j u))))
       (λ _. OtherOperand at l j u)
 
   -- the greatest of both types
@@ -74,5 +74,5 @@ module _ (defs : Definitions) where
 
   -- the right side of `p op= e`, where p has the type u: `p op e` fits it
   abbrev pub Operand : ℕ → Family → Term → Judged → Judgement Typed
-  Operand at o.Concatenation u j = Needs condition.Mismatch at (IsBelow u t.Text) (Needs condition.Mismatch at (IsBelow t.Text u) (j (Some t.Text)))
+  Operand at o.Concatenation u j = Meets t.Text (Needs condition.Mismatch at (IsBelow u t.Text) (Needs condition.Mismatch at (IsBelow t.Text u) (j (Some t.Text))))
   Operand at f u j = Given condition.BadOperator at (number_with f (head defs u)) (λ _. j (Some u))

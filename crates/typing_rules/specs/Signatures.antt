@@ -62,7 +62,7 @@ module _ (defs : Definitions) where
   -- the context of a call, `{caller : Principal}`
   abbrev pub ContextOf : TypeScope → Option (Pattern ℕ) → Judgement (Scope × Option (Pattern Note))
   ContextOf s None = Gives ([], None)
-  ContextOf s (Some q) = Part (Stands defs s q context_type) (λ b. Gives (b.0, Some b.1))
+  ContextOf s (Some q) = Meets context_type (Part (Stands defs s q context_type) (λ b. Gives (b.0, Some b.1)))
 
   -- the result of a public function is `async T`
   abbrev pub AsyncResult : ℕ → TypeScope → Option TypeNode → Judgement Term
@@ -76,7 +76,7 @@ module _ (defs : Definitions) where
       Meets (t.Function (unlisted us) r) (Gives ((x.bytes, generic (places_of (names_of g.generics)) (t.Function (unlisted us) r)) ∷ [])))))
   SignatureOf s (p.Class x g fields) =
       Part (Generics defs (within s g) g.generics) (λ _. Part (ParameterTypes (within s g) g.parameters) (λ us.
-      Gives ((x.bytes, generic (places_of (names_of g.generics)) (t.Function (unlisted us) (class_type (within s g) x))) ∷ [])))
+      Meets (t.Function (unlisted us) (class_type (within s g) x)) (Gives ((x.bytes, generic (places_of (names_of g.generics)) (t.Function (unlisted us) (class_type (within s g) x))) ∷ []))))
   SignatureOf s (p.Method query context x g body) =
       Part (ParameterTypes s g.parameters) (λ us. Part (AsyncResult x.at s g.result) (λ r. Part (AllShareable x.at us r) (λ _.
       Meets (t.Shared (method_sort query) (unlisted us) r) (Gives ((x.bytes, constant (t.Shared (method_sort query) (unlisted us) r)) ∷ [])))))

@@ -71,43 +71,54 @@ int = Number kind.Int
 
 -- ---- types put in place of parameters
 
--- what is put in place of a parameter
-abbrev pub put : List (ℕ × Term) → ℕ → Term
-put [] at = Parameter at
-put (x ∷ xs) at = cond (nat_eq x.0 at) x.1 (put xs at)
-
 abbrev mutual
-  pub with_arguments : List (ℕ × Term) → Term → Term
-  with_arguments s (Number k) = Number k
-  with_arguments s Boolean = Boolean
-  with_arguments s Character = Character
-  with_arguments s Text = Text
-  with_arguments s Blob = Blob
-  with_arguments s Principal = Principal
-  with_arguments s Error = Error
-  with_arguments s Null = Null
-  with_arguments s Any = Any
-  with_arguments s Bottom = Bottom
-  with_arguments s (Optional a) = Optional (with_arguments s a)
-  with_arguments s (Array a) = Array (with_arguments s a)
-  with_arguments s (MutableArray a) = MutableArray (with_arguments s a)
-  with_arguments s (Tuple parts) = Tuple (each_with_arguments s parts)
-  with_arguments s (Object fields) = Object (fields_with_arguments s fields)
-  with_arguments s (Actor methods) = Actor (fields_with_arguments s methods)
-  with_arguments s (Variant tags) = Variant (fields_with_arguments s tags)
-  with_arguments s (Function parameters result) = Function (each_with_arguments s parameters) (with_arguments s result)
-  with_arguments s (Shared sort parameters result) = Shared sort (each_with_arguments s parameters) (with_arguments s result)
-  with_arguments s (Async a) = Async (with_arguments s a)
-  with_arguments s (Parameter at) = put s at
-  with_arguments s (Use at arguments) = Use at (each_with_arguments s arguments)
+  -- a type with these in the place of its parameters
+  pub put_in : (ℕ → Term) → Term → Term
+  put_in s (Number k) = Number k
+  put_in s Boolean = Boolean
+  put_in s Character = Character
+  put_in s Text = Text
+  put_in s Blob = Blob
+  put_in s Principal = Principal
+  put_in s Error = Error
+  put_in s Null = Null
+  put_in s Any = Any
+  put_in s Bottom = Bottom
+  put_in s (Optional a) = Optional (put_in s a)
+  put_in s (Array a) = Array (put_in s a)
+  put_in s (MutableArray a) = MutableArray (put_in s a)
+  put_in s (Tuple parts) = Tuple (each_put_in s parts)
+  put_in s (Object fields) = Object (fields_put_in s fields)
+  put_in s (Actor methods) = Actor (fields_put_in s methods)
+  put_in s (Variant tags) = Variant (fields_put_in s tags)
+  put_in s (Function parameters result) = Function (each_put_in s parameters) (put_in s result)
+  put_in s (Shared sort parameters result) = Shared sort (each_put_in s parameters) (put_in s result)
+  put_in s (Async a) = Async (put_in s a)
+  put_in s (Parameter at) = s at
+  put_in s (Use at arguments) = Use at (each_put_in s arguments)
 
-  pub each_with_arguments : List (ℕ × Term) → Terms → Terms
-  each_with_arguments s Nil = Nil
-  each_with_arguments s (Cons t rest) = Cons (with_arguments s t) (each_with_arguments s rest)
+  pub each_put_in : (ℕ → Term) → Terms → Terms
+  each_put_in s Nil = Nil
+  each_put_in s (Cons t rest) = Cons (put_in s t) (each_put_in s rest)
 
-  pub fields_with_arguments : List (ℕ × Term) → Fields → Fields
-  fields_with_arguments s NoFields = NoFields
-  fields_with_arguments s (WithField l mutable t rest) = WithField l mutable (with_arguments s t) (fields_with_arguments s rest)
+  pub fields_put_in : (ℕ → Term) → Fields → Fields
+  fields_put_in s NoFields = NoFields
+  fields_put_in s (WithField l mutable t rest) = WithField l mutable (put_in s t) (fields_put_in s rest)
+
+-- what stands in the place of a parameter, where one that is not among these stays
+abbrev pub argument_or_itself : List (ℕ × Term) → ℕ → Term
+argument_or_itself [] at = Parameter at
+argument_or_itself (x ∷ xs) at = cond (nat_eq x.0 at) x.1 (argument_or_itself xs at)
+
+abbrev pub with_arguments : List (ℕ × Term) → Term → Term
+with_arguments s t = put_in (argument_or_itself s) t
+
+-- what stands in the place of a parameter of a definition, at its use with these arguments. One that has no argument, which is in programs alone that are
+-- refused, becomes None.
+abbrev pub argument_of : List ℕ → Terms → ℕ → Term
+argument_of [] arguments at = Bottom
+argument_of (p ∷ ps) Nil at = Bottom
+argument_of (p ∷ ps) (Cons t rest) at = cond (nat_eq p at) t (argument_of ps rest at)
 
 -- each parameter with its argument
 abbrev pub zipped : {A : Type 0} → List ℕ → List A → List (ℕ × A)
