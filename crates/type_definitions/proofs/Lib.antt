@@ -1,0 +1,9 @@
+pub mod Meanings
+pub mod Rebuilt
+pub mod Putting
+pub mod Following
+pub mod PutIn
+pub mod Leading
+pub mod Unfolded
+pub mod Shapes
+pub mod Different
