@@ -1,0 +1,6 @@
+pub mod Reached
+pub mod Nodes
+pub mod Closing
+pub mod Faults
+pub mod Overflowing
+pub mod States
