@@ -1,0 +1,14 @@
+mod Texts
+mod Added
+mod Remaining
+mod Lists
+mod ShapeViews
+mod Meets
+mod Tuples
+mod Seats
+mod Objects
+mod Patterns
+mod Missed
+mod LeftTags
+mod Marked
+mod EasyWhole

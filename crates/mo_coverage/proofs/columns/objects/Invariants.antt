@@ -1,0 +1,11 @@
+use Rattle.std.proofs.Common.{◌≡◌, ◌++◌, length}
+use Rattle.std.specs.Vec.Iter.{into_iter_items, into_iter_len}
+use Rattle.mo_coverage.specs.ColumnView.{columns_in}
+use Rattle.mo_coverage.specs.Pieces.{pieces_in}
+use Rattle.mo_coverage.specs.Columns.{wholes}
+use Rattle.mo_values.specs.Messages.{labels}
+use Rattle.pattern_coverage.specs.Known.{Fields}
+use Rattle.mo_coverage.proofs.columns.objects.Given as goal
+
+abbrev pub invariant-loop-column : goal.invariant-loop-column
+invariant-loop-column l = (into_iter_len l.column-iterator ≡ length (into_iter_items l.column-iterator)) × (pieces_in l.made.items ++ wholes (Fields (labels l.fields)) (columns_in (into_iter_items l.column-iterator)) ≡ wholes (Fields (labels l.fields)) (columns_in l.fn.columns.items))

@@ -1,0 +1,13 @@
+use Rattle.std.proofs.Common.{◌≡◌, [], ◌∷◌, drop, map}
+use Rattle.mo_types.specs.Graph.{head_at}
+use Rattle.typed_tree.specs.PatternView.{pattern}
+use Rattle.pattern_coverage.specs.Inhabited.{in_table}
+use Rattle.pattern_coverage.specs.Known.{Unknown}
+use Rattle.mo_coverage.specs.Covering.{missed_by_all}
+use Rattle.mo_coverage.specs.Shapes.{all_known}
+use Rattle.mo_coverage.proofs.missing.miss_all.Given as goal
+
+abbrev pub invariant-loop-typed : goal.invariant-loop-typed
+invariant-loop-typed l =
+    missed_by_all (head_at l.types) (in_table l.table) (map pattern (drop l.typed-index l.patterns)) l.id (all_known l.shapes.items)
+    ≡ missed_by_all (head_at l.types) (in_table l.table) (map pattern l.patterns) l.id (Unknown ∷ [])

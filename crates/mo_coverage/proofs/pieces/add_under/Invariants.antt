@@ -1,0 +1,11 @@
+use Rattle.std.proofs.Common.{◌≡◌, ◌++◌, length}
+use Rattle.std.specs.Vec.Iter.{into_iter_items, into_iter_len}
+use Rattle.pattern_coverage.specs.Cutting.{around}
+use Rattle.pattern_coverage.specs.Known.{Under}
+use Rattle.mo_coverage.specs.Pieces.{pieces_in}
+use Rattle.mo_coverage.proofs.pieces.add_under.Given as goal
+
+abbrev pub invariant-loop-piece : goal.invariant-loop-piece
+invariant-loop-piece l =
+    (into_iter_len l.piece-iterator ≡ length (into_iter_items l.piece-iterator))
+    × (pieces_in l.pieces.items ++ around (Under l.label) (pieces_in (into_iter_items l.piece-iterator)) ≡ pieces_in l.fn.pieces.items ++ around (Under l.label) (pieces_in l.fn.inside.items))

@@ -1,0 +1,9 @@
+pub mod Shapes
+pub mod Places
+pub mod Openings
+pub mod Pieces
+pub mod Opened
+pub mod Columns
+pub mod ColumnView
+pub mod Covering
+pub mod Easy
