@@ -19,6 +19,7 @@ pub mod Examples
 pub mod Drives
 pub mod Rows
 pub mod View
+pub mod ScopeNames
 pub mod CodeView
 pub mod ProgramView
 pub mod Arities

@@ -1,5 +1,5 @@
 -- The programs that those of the code stand for.
-use Rattle.std.specs.Prelude.{map}
+use Rattle.std.specs.Prelude.{ℕ, length, map}
 use Rattle.mo_types.specs.Graph.{head_at}
 use Rattle.core_ir.specs.declared.program.Program.{Program as ProgramTree}
 use Rattle.core_ir.specs.declared.program.Group.{Group as GroupTree}
@@ -17,12 +17,13 @@ use Rattle.core_ir.specs.CodeView.{code_body}
 abbrev pub stable_variable : VariableTree → StableVariable
 stable_variable v = record { name = v.name; of_type = v.of_type }
 
-module _ {B C : Type 0} (body : B → C) where
+-- the body is one of a group of so many functions, which sees so many values
+module _ {B C : Type 0} (body : ℕ → ℕ → B → C) where
   abbrev pub group : GroupTree B → Group C
-  group g = record { sees = g.sees; bodies = map body g.bodies }
+  group g = record { sees = g.sees; bodies = map (body (length g.bodies) g.sees) g.bodies }
 
   abbrev pub method : MethodTree B → Method C
-  method m = record { name = m.name; query = m.query; signature = signature m.signature; body = body m.body }
+  method m = record { name = m.name; query = m.query; signature = signature m.signature; body = body 0 0 m.body }
 
   abbrev pub program : ProgramTree B → Program C
   program p = record {
@@ -30,12 +31,12 @@ module _ {B C : Type 0} (body : B → C) where
     groups = map group p.groups;
     methods = map method p.methods;
     stable = map stable_variable p.stable;
-    save = body p.save;
-    start = body p.start;
+    save = body 0 0 p.save;
+    start = body 0 0 p.start;
   }
 
 abbrev pub core : CoreTree → Core
-core p = program core_body p.program
+core p = program (λ functions sees. core_body) p.program
 
 abbrev pub split_core : SplitCore → CodeProgram
 split_core p = program code_body p.program

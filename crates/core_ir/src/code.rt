@@ -1,8 +1,12 @@
 //! Structured code over slots: the code of `SplitCore` and of `Flat`.
+ghost use Rattle.std.specs.Prelude.{◌≡◌, IfOk};
+
 use crate::constant::Constant;
 use crate::primitive::{Constructor, Primitive};
 use crate::program::Signature;
-use mo_num::Sequence;
+use crate::scopes::Scopes;
+use crate::shared::Shared;
+use mo_num::{Memory, Sequence};
 use mo_syntax::Items;
 
 /// What an instruction reads at no cost.
@@ -16,7 +20,22 @@ pub enum Operand {
     Member(u32),
     /// A name of the actor.
     Global(u32),
-    Constant(Constant),
+    Constant(Shared<Constant>),
+}
+
+impl Operand {
+    /// The same operand for another place.
+    pub fn copy(&self) -> Result<Operand, Memory>
+        ensures { IfOk result (λ made. made ≡ self.now) }
+    {
+        match self {
+            Operand::Slot(slot) => Ok(Operand::Slot(*slot)),
+            Operand::Captured(place) => Ok(Operand::Captured(*place)),
+            Operand::Member(place) => Ok(Operand::Member(*place)),
+            Operand::Global(place) => Ok(Operand::Global(*place)),
+            Operand::Constant(constant) => Ok(Operand::Constant(constant.share()?)),
+        }
+    }
 }
 
 /// Where a jump goes.
@@ -38,7 +57,7 @@ pub struct Handler {
 /// What a group of functions sees where it is made.
 #[derive(Drop)]
 pub enum Seen {
-    /// All names of this scope of the body.
+    /// All names in this scope of the body.
     Scope(u32),
     Listed(Sequence<Operand>),
 }
@@ -55,9 +74,9 @@ pub struct Code {
 #[cycle(code)]
 #[derive(Drop)]
 pub enum Instruction {
-    Let(u32, Primitive, Sequence<Operand>),
-    If(Primitive, Sequence<Operand>, Code, Code),
-    Match(u32, Constructor, Operand, Code, Code),
+    Let(u32, Shared<Primitive>, Sequence<Operand>),
+    If(Shared<Primitive>, Sequence<Operand>, Code, Code),
+    Match(u32, Shared<Constructor>, Operand, Code, Code),
     Loop(Code),
     Label(Code),
     /// Makes the functions of this group, whose values go into the slots from the first one on.
@@ -65,7 +84,7 @@ pub enum Instruction {
     Call(u32, Operand, Sequence<Operand>),
     /// The number of elements, and the function of an index.
     Tabulate(u32, Operand, Operand),
-    Send(u32, Signature, Operand, Sequence<Operand>, Option<Handler>),
+    Send(u32, Shared<Signature>, Operand, Sequence<Operand>, Option<Handler>),
 }
 
 /// How code ends.
@@ -85,13 +104,6 @@ pub enum Exit {
     Return(Operand),
 }
 
-/// A scope of a body: a name, and the scope around it. Scope 0 has no names; the others are numbered from 1.
-#[derive(Drop)]
-pub struct Scope {
-    pub name: Operand,
-    pub outer: u32,
-}
-
 /// The body of a function or method: it has its arguments in its first slots, and begins as segment 0.
 #[derive(Drop)]
 pub struct CodeBody {
@@ -99,6 +111,6 @@ pub struct CodeBody {
     pub slots: u32,
     /// The nodes of the parameters and the body in the source.
     pub nodes: u32,
-    pub scopes: Sequence<Scope>,
+    pub scopes: Scopes,
     pub segments: Sequence<Code>,
 }

@@ -2,13 +2,14 @@
 use crate::constant::Constant;
 use crate::primitive::{Constructor, Primitive};
 use crate::program::Signature;
+use crate::shared::Shared;
 use mo_syntax::{Items, Node};
 
 /// An expression. A name is the number of binders between its use and its own, a label likewise among labels.
 #[cycle(expression)]
 #[derive(Drop)]
 pub enum Expression {
-    Constant(Constant),
+    Constant(Shared<Constant>),
     Name(u32),
     /// A name of the actor: the actor itself, its methods as shared functions, and then what its start gave.
     Global(u32),
@@ -28,17 +29,17 @@ pub enum Expression {
 #[cycle(expression)]
 #[derive(Drop)]
 pub enum Goal {
-    Operate(Primitive),
+    Operate(Shared<Primitive>),
     /// The first branch where the primitive gives `true`, and the second one where it gives `false`.
-    Choose(Primitive, Node<Expression>, Node<Expression>),
+    Choose(Shared<Primitive>, Node<Expression>, Node<Expression>),
     /// The first branch where the value has the form, with what is inside as its nearest name; else the second one.
-    Match(Constructor, Node<Expression>, Node<Expression>),
+    Match(Shared<Constructor>, Node<Expression>, Node<Expression>),
     /// The function, and its arguments.
     Call,
     /// `Array.tabulate`: the number of elements, and the function of an index.
     Tabulate,
     /// The shared function with these types, and its arguments.
-    Send(Signature),
+    Send(Shared<Signature>),
     Throw,
     /// The future.
     Await,

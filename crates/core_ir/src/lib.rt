@@ -9,8 +9,10 @@ mod expression;
 mod primitive;
 mod program;
 mod rows;
+mod scopes;
+mod shared;
 
-pub use code::{Code, CodeBody, Exit, Handler, Instruction, Operand, Scope, Seen, Way};
+pub use code::{Code, CodeBody, Exit, Handler, Instruction, Operand, Seen, Way};
 pub use constant::Constant;
 pub use expression::{Binding, CoreBody, Expression, Goal};
 pub use primitive::{Constructor, Primitive};
@@ -19,3 +21,5 @@ pub use rows::{
     actors_are_as_wanted, awaits_are_as_wanted, calls_are_limited, functions_are_as_wanted,
     starts_are_as_wanted,
 };
+pub use scopes::{Outermost, Scopes};
+pub use shared::Shared;

@@ -1,6 +1,7 @@
 //! Programs of the core languages.
 use crate::code::CodeBody;
 use crate::expression::CoreBody;
+use crate::shared::Shared;
 use mo_num::{Bytes, Sequence};
 use mo_types::{TypeGraph, TypeId};
 
@@ -22,9 +23,9 @@ pub struct Group<Body> {
 /// A method of the actor. Its body takes the context of the call, and then the arguments.
 #[derive(Drop)]
 pub struct Method<Body> {
-    pub name: Bytes,
+    pub name: Shared<Bytes>,
     pub query: bool,
-    pub signature: Signature,
+    pub signature: Shared<Signature>,
     pub body: Body,
 }
 
@@ -37,12 +38,12 @@ pub struct StableVariable {
 
 /// An actor.
 pub struct Program<Body> {
-    pub types: TypeGraph,
+    pub types: Shared<TypeGraph>,
     /// The functions of a group make groups before it alone.
     pub groups: Sequence<Group<Body>>,
     /// With `__resume` among them.
     pub methods: Sequence<Method<Body>>,
-    pub stable: Sequence<StableVariable>,
+    pub stable: Shared<Sequence<StableVariable>>,
     /// The hook before an upgrade, and then the values of the stable variables as a tuple.
     pub save: Body,
     /// It takes what was kept of each stable variable, as an option, and then whether this is an upgrade. It gives the values

@@ -1,19 +1,15 @@
 -- Where the values of expressions are: constants and names are read where they are used, and all else is computed into a slot.
-use Rattle.std.specs.Prelude.{ℕ, zero, suc, List, [], ◌∷◌, Option, Some, None}
-use Rattle.core_ir.specs.declared.constant.Constant.TheVariants as constant
+use Rattle.std.specs.Prelude.{ℕ, suc, List, [], ◌∷◌, Option, Some, None}
 use Rattle.core_ir.specs.declared.primitive.Primitive.TheVariants as primitive
 use Rattle.core_ir.specs.declared.code.Operand.{Operand}
-use Rattle.core_ir.specs.declared.code.Operand.TheVariants.{Slot, Captured, Member, Global, Constant}
+use Rattle.core_ir.specs.declared.code.Operand.TheVariants.{Slot, Global, Constant}
 use Rattle.core_ir.specs.declared.code.Way.{Way}
 use Rattle.core_ir.specs.declared.code.Way.TheVariants.{Near, Far}
-use Rattle.core_ir.specs.Choices.{on_some, nth}
+use Rattle.core_ir.specs.Choices.{on_some}
 use Rattle.core_ir.specs.Expressions as tree
 use Rattle.core_ir.specs.Expressions.{Exp, Constant?, Name, Exps, NoExp, AnExp}
 use Rattle.core_ir.specs.Code.{Code, Let, Branch, Leave, Pass}
-
--- a name out of scope reads ()
-abbrev pub name_at : List Operand → ℕ → Operand
-name_at names x = nth (Constant constant.Unit) names x
+pub use Rattle.core_ir.specs.ScopeNames.{name_at, slots_from, members_from, captured_from}
 
 -- the operand that reads the expression's value, which is in slot h if it is computed
 abbrev pub operand : List Operand → Exp → ℕ → Operand
@@ -46,18 +42,6 @@ first (x ∷ xs) = x
 abbrev pub others : List Operand → List Operand
 others [] = []
 others (x ∷ xs) = xs
-
-abbrev pub slots_from : ℕ → ℕ → List Operand
-slots_from h zero = []
-slots_from h (suc n) = Slot h ∷ slots_from (suc h) n
-
-abbrev pub members_from : ℕ → ℕ → List Operand
-members_from m zero = []
-members_from m (suc n) = Member m ∷ members_from (suc m) n
-
-abbrev pub captured_from : ℕ → ℕ → List Operand
-captured_from x zero = []
-captured_from x (suc n) = Captured x ∷ captured_from (suc x) n
 
 -- the slot, or this free one where the value is not looked at
 abbrev pub slot : Option ℕ → ℕ → ℕ
