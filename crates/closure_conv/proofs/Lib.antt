@@ -1,0 +1,2 @@
+pub mod UseSets
+pub mod Programs
