@@ -1,0 +1,10 @@
+pub mod Stacks
+pub mod Before
+pub mod Truths
+pub mod ExpressionViews
+pub mod Making
+pub mod OpenedNames
+pub mod Steps
+pub mod Constructs
+pub mod Bodies
+pub mod Programs

@@ -1,0 +1,14 @@
+//! Splitting: from nested expressions to structured code over slots, in segments that go on behind an await.
+#![tactic(auto)]
+
+mod around;
+mod awaits;
+mod bindings;
+mod body;
+mod draft;
+mod expression;
+mod operands;
+mod program;
+mod room;
+
+pub use program::split;
