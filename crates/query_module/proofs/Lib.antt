@@ -7,7 +7,6 @@ pub mod Places
 pub mod Refined
 pub mod Told
 pub mod Valid
-pub mod Short
 pub mod Spelled
 pub mod Builds
 pub mod Only

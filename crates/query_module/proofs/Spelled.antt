@@ -10,7 +10,7 @@ use Rattle.wasm_tree.specs.Code.{Stop, Then}
 use Rattle.wasm_tree.specs.Imports.{bytes_type, entry_type}
 use Rattle.wasm_tree.specs.Binary.{IsFunctionType, IsLimits, IsName, IsExpression, IsImport, IsSignature, IsExport, IsCode, IsData, Written}
 use Rattle.wasm_tree.proofs.Within.{Within, within_raised, name_within, ascii_text, function_type_within, limits_within, expression_within, import_within, signature_within, export_within, code_within, data_within}
-use Rattle.query_module.proofs.Short.{Takes, takes_none, takes_each, written_in}
+use Rattle.module_laws.proofs.Short.{Takes, takes_none, takes_each, written_in}
 use Rattle.query_module.specs.Answers.{AreQueries}
 use Rattle.query_module.specs.Tree.{AreReplies, query_types, ic0_import, query_imports, query_body, query_function, functions_from, export_name, query_export, exports_from, resume_export, query_exports, query_memory, query_data, query_tree}
 use Rattle.query_module.proofs.Replies.{joined_short, length_of_replies}

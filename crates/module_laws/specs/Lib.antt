@@ -1,0 +1,3 @@
+pub mod Prints
+pub mod Stored
+pub mod Laws
