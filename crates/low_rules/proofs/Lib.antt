@@ -1,0 +1,3 @@
+pub mod Sound
+pub mod Entering
+pub mod Steps
