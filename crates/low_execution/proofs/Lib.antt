@@ -1,0 +1,2 @@
+pub mod HostTypes
+pub mod NeverLost

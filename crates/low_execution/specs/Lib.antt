@@ -1,0 +1,4 @@
+pub mod Host
+pub mod Execution
+pub mod Entries
+pub mod Loading

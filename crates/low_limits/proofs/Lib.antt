@@ -1,0 +1,4 @@
+pub mod Later
+pub mod Fewer
+pub mod Cut
+pub mod Under
