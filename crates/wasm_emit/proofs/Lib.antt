@@ -1,0 +1,15 @@
+pub mod Flats
+pub mod Asked
+pub mod Same
+pub mod Words
+pub mod Calls
+pub mod Hosts
+pub mod Executes
+pub mod Typed
+pub mod Valid
+pub mod Loads
+pub mod Entered
+pub mod Smallness
+pub mod CodeBytes
+pub mod ModuleBytes
+pub mod Compile
