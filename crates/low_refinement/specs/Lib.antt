@@ -1,0 +1,3 @@
+pub mod LowEnds
+pub mod LowSimulates
+pub mod Laws
