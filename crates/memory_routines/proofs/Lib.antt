@@ -1,0 +1,10 @@
+pub mod Counting
+pub mod Allocating
+pub mod Comparing
+pub mod Placing
+pub mod Copied
+pub mod Kept
+pub mod Ordered
+pub mod Stays
+pub mod Digits
+pub mod Formed
