@@ -1,0 +1,5 @@
+//! Tests that types are met where there is memory.
+#![tactic(auto)]
+
+#[cfg(test)]
+mod meeting;
