@@ -3,6 +3,7 @@ ghost use Rattle.std.specs.Prelude.{◌≡◌, ◌∷◌, ◌++◌, List, [], le
 ghost use Rattle.mo_types.specs.Graph.{head_at};
 ghost use Rattle.typing_rules.specs.Terms.{Term};
 ghost use Rattle.type_definitions.specs.Definitions.{Stand};
+ghost use Rattle.type_definitions.specs.Heads.{IsHeadOf, MakesNode};
 ghost use Rattle.type_definitions.specs.Outcomes.{AreOutcomes};
 ghost use Rattle.mo_types.specs.Sub.{Each, IsSubtype};
 ghost use Rattle.type_definitions.specs.Tables.{IsTermOf, Makes, Within};
@@ -19,7 +20,7 @@ use mo_subtype::{Verdict, subtype};
 use mo_types::{Node, TypeGraph, TypeId};
 use std::alloc::Global;
 use std::marker::Model;
-use type_definitions::{Arguments, Definitions, Outcome, outcomes, put_in};
+use type_definitions::{Arguments, Definitions, Outcome, head, outcomes, put_in};
 use type_terms::{Form, TermId, Terms};
 
 /// The types of a program.
@@ -87,6 +88,20 @@ impl Types {
         &self.terms
     }
 
+    /// The definitions of the program.
+    pub fn definitions(&self) -> &Definitions
+        ensures { result.now ≡ self.now.listed }
+    {
+        &self.definitions
+    }
+
+    /// What each definition leads to.
+    pub fn outcomes(&self) -> &[Outcome]
+        ensures { result.now ≡ self.now.outcomes }
+    {
+        self.outcomes.as_slice()
+    }
+
     /// The type of a term is met: it and all that it reaches are types of the graph from then on. After an error the types
     /// serve for nothing more.
     pub fn meet(&mut self, id: TermId) -> Result<(), MeetFault>
@@ -148,6 +163,23 @@ impl Types {
         ensures made { IfOk result (λ made. Makes self.old.forms (IsPut arguments.now.parameters.now arguments.now.arguments.now arguments.now.others_stay id made) made self.new.forms) }
     {
         put_in(&mut self.terms, arguments, id)
+    }
+
+    /// The head of a type, with the terms of its parts.
+    pub fn head(&mut self, id: TermId) -> Result<Node<TermId>, Memory>
+        requires kept { Kept self.old }
+        requires within { Within self.old.forms id }
+        ensures kept { OnOk result (Kept self.new) }
+        ensures goes { OnOk result (Goes self.old self.new) }
+        ensures stands { OnOk result ((met : List Term) → Stands met self.old → Stands met self.new) }
+        ensures made { IfOk result (λ node. MakesNode self.old.forms (IsHeadOf self.old.listed id node) node self.new.forms) }
+    {
+        head(
+            &mut self.terms,
+            &self.definitions,
+            self.outcomes.as_slice(),
+            id,
+        )
     }
 
     /// The head of a type of the graph, with types of the graph as parts.

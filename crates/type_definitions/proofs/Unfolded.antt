@@ -34,6 +34,7 @@ put_alike f g e u = sym (twice f (λ q. t.Parameter q) f (λ q. refl) u) ∙ twi
 pub stand_on : (a b : List Form) (l : Listed) → Grows a b → Stand a l → Stand b l
 stand_on a b l g s = record {
   as_many = s.as_many;
+  as_many_bounds = s.as_many_bounds;
   types = each_map (λ (x : Definition). Within a x.right) (λ x. Within b x.right) (λ x. within_on a b x.right g) l.types s.types;
   bounds = each_within a b l.bounds g s.bounds;
 }
@@ -58,13 +59,13 @@ no_use a l id w n = record {
 
 -- the steps
 
-some_rule : (l : Listed) (later : List Form) (n : ℕ) (x : Definition) → definition_of l n ≡ Some x → (d : rule.Definition) × (definition_at (types_in later l) n ≡ Some d) × (d.outer ++ d.own ≡ x.parameters) × (d.right ≡ term later x.right)
+pub some_rule : (l : Listed) (later : List Form) (n : ℕ) (x : Definition) → definition_of l n ≡ Some x → (d : rule.Definition) × (definition_at (types_in later l) n ≡ Some d) × (d.outer ++ d.own ≡ x.parameters) × (d.right ≡ term later x.right)
 some_rule l later n x e = pick (definition_at (types_in later l) n) (rule_is (term later) l n ∙ ap (map_option (seen_own (term later))) e) where
   pick : (o : Option rule.Definition) → map_option (seen_rule (term later)) o ≡ Some (seen_own (term later) x) → (d : rule.Definition) × (o ≡ Some d) × (d.outer ++ d.own ≡ x.parameters) × (d.right ≡ term later x.right)
   pick None h = cc
   pick (Some d) h = let g : seen_rule (term later) d ≡ seen_own (term later) x = cc in (d, refl, ap (λ (s : Seen (term later)). s.0) g, ap (λ (s : Seen (term later)). s.1) g)
 
-no_rule : (l : Listed) (later : List Form) (n : ℕ) → definition_of l n ≡ None → definition_at (types_in later l) n ≡ None
+pub no_rule : (l : Listed) (later : List Form) (n : ℕ) → definition_of l n ≡ None → definition_at (types_in later l) n ≡ None
 no_rule l later n e = pick (definition_at (types_in later l) n) (rule_is (term later) l n ∙ ap (map_option (seen_own (term later))) e) where
   pick : (o : Option rule.Definition) → map_option (seen_rule (term later)) o ≡ None → o ≡ None
   pick None h = refl

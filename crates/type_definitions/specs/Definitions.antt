@@ -59,8 +59,9 @@ types_in later l = types_at (term later) l
 abbrev pub rules_in : List Form → Listed → d.Definitions
 rules_in later l = rules_at (term later) l
 
--- There are as many names as definitions, and their types stand in the table.
+-- There are as many names as definitions, and as many parameters as bounds, and their types stand in the table.
 pub record Stand (forms : List Form) (l : Listed) : Type 0 where
   pub as_many : length l.names ≡ length l.types
+  pub as_many_bounds : length l.bounded ≡ length l.bounds
   pub types : Each (λ x. Within forms x.right) l.types
   pub bounds : Each (Within forms) l.bounds
