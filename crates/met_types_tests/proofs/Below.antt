@@ -13,3 +13,11 @@ number_below n k = tt
 pub option_below : (n : ℕ) (id : TermId) → id.index < n → PartsBelow n (form.Optional id)
 unfolding layout
 option_below n id l = (l, tt)
+
+pub array_below : (n : ℕ) (id : TermId) → id.index < n → PartsBelow n (form.Array id)
+unfolding layout
+array_below n id l = (l, tt)
+
+pub variable_below : (n : ℕ) (id : TermId) → id.index < n → PartsBelow n (form.MutableArray id)
+unfolding layout
+variable_below n id l = (l, tt)

@@ -1,0 +1,10 @@
+pub mod Questions
+pub mod Own
+pub mod Substituted
+pub mod Needed
+pub mod Followed
+pub mod Round
+pub mod Parts
+pub mod Deciding
+pub mod Answered
+pub mod Staying

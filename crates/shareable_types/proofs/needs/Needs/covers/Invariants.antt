@@ -1,0 +1,6 @@
+use Rattle.std.proofs.Common.{◌≡◌, ℕ, Bool, true, take}
+use Rattle.shareable_types.specs.Sharing.{all, allowed}
+use Rattle.shareable_types.proofs.needs.Needs.covers.Given as goal
+
+abbrev pub invariant-loop-number : goal.invariant-loop-number
+invariant-loop-number l = (x : ℕ → Bool) → allowed x l.self ≡ true → all x (take l.number-index l.number-items) ≡ true

@@ -1,0 +1,5 @@
+pub mod Sharing
+pub mod Shared
+pub mod Settled
+pub mod Parts
+pub mod Answers
