@@ -1,0 +1,2 @@
+pub mod TreeMaking
+pub mod TreeViews

@@ -1,0 +1,3 @@
+pub mod ProgramWalks
+pub mod TreeView
+pub mod TreeWalks

@@ -1,0 +1,5 @@
+//! A test that sources have their abstract syntax where there is memory.
+#![tactic(auto)]
+
+#[cfg(test)]
+mod forms;
