@@ -4,7 +4,7 @@ ghost use Rattle.core_ir.specs.Choices.{nth};
 ghost use Rattle.core_ir.specs.CodeView.{code_body};
 ghost use Rattle.core_ir.specs.ProgramView.{flat, program as program_view, split_core};
 ghost use Rattle.core_laws.specs.Conversion.{convert_body as body_made, convert_group as group_made, convert_groups as groups_made, convert_method as method_made, convert_program, converted};
-ghost use Rattle.closure_conv.specs.Runs.{DoesTheSame};
+ghost use Rattle.closure_conv.specs.Runs.{DoesTheSame, KeepsFormed};
 ghost use Rattle.closure_conv.specs.Parts.{group_view, method_view};
 ghost use Rattle.core_laws.specs.Uses.{needs_of, uses_bodies, uses_segments};
 
@@ -181,10 +181,11 @@ fn convert_by(alloc: Global, needs: &[Uses], program: &Program<CodeBody>) -> Res
 }
 
 /// The same program with groups that see what their functions use. Where groups make groups before them alone, it does what the
-/// program does, at its weight and depth.
+/// program does, at its weight and depth. Of a formed program it is a formed one, which does so.
 pub fn convert(alloc: Global, split: &SplitCore) -> Result<Flat, Memory>
     ensures converted { IfOk result (λ made. flat made ≡ convert_program (split_core split.now)) }
     ensures same { IfOk result (λ made. DoesTheSame (split_core split.now) (flat made)) }
+    ensures formed { IfOk result (λ made. KeepsFormed (split_core split.now) (flat made)) }
 {
     let needs = use_groups(alloc, split.program.groups.as_slice())?;
     Ok(convert_by(alloc, &needs, &split.program)?)

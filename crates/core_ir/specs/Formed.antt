@@ -1,4 +1,5 @@
--- Programs that are formed: what they name is there, within fixed counts, and none of their executions breaks.
+-- Programs that are formed: what they name is there, within fixed counts. That none of their executions breaks is said of the machines,
+-- by `IsSafe`.
 use Rattle.std.specs.Prelude.{◌≡◌, ℕ, zero, suc, ◌+◌, ◌*◌, ◌≤◌, ◌≢◌, ⊤, AllPairs, Contains, codes, Bool, true, false, List, [], ◌∷◌, length, map}
 use Rattle.std.specs.List.{AllByRecursion}
 use Rattle.mo_types.specs.Values.{is_method_name}
@@ -11,6 +12,7 @@ use Rattle.core_ir.specs.Code as code
 use Rattle.core_ir.specs.Code.{CodeProgram}
 use Rattle.core_ir.specs.FormedExpressions as core_form
 use Rattle.core_ir.specs.FormedCode as code_form
+use Rattle.core_ir.specs.Outward.{outward_of}
 
 -- no execution from this entry breaks
 abbrev pub IsWhole : {S W : Type 0} → Stand S W → Type 0
@@ -67,8 +69,15 @@ module _ (own : ℕ) (p : Core) where
   FormedCoreGroups n [] = ⊤
   FormedCoreGroups n (g ∷ gs) = AllByRecursion (λ b. FormedCoreBody n false (length g.bodies) g.sees b) g.bodies × FormedCoreGroups (suc n) gs
 
+  -- a group that is made pays for its functions and what they name of what it sees
+  abbrev pub PaidCoreGroups : List (List ℕ) → List (Group tree.Body) → Type 0
+  PaidCoreGroups needs [] = ⊤
+  PaidCoreGroups [] (g ∷ gs) = (2 * length g.bodies ≤ 4 * (1 + tree.nodes_of g.bodies)) × PaidCoreGroups [] gs
+  PaidCoreGroups (ns ∷ needs) (g ∷ gs) = (2 * length g.bodies + length ns ≤ 4 * (1 + tree.nodes_of g.bodies)) × PaidCoreGroups needs gs
+
   pub record FormedCore : Type 0 where
     pub groups : FormedCoreGroups 0 p.groups
+    pub paid : PaidCoreGroups (outward_of (size_at p.groups) [] p.groups) p.groups
     pub methods : AllByRecursion (λ m. FormedCoreBody (length p.groups) true 0 0 m.body) p.methods
     pub save : FormedCoreBody (length p.groups) false 0 0 p.save
     pub start : FormedCoreBody (length p.groups) false 0 0 p.start
@@ -85,16 +94,21 @@ module _ (own : ℕ) (p : CodeProgram) where
   FormedCodeGroups n [] = ⊤
   FormedCodeGroups n (g ∷ gs) = AllByRecursion (λ b. FormedCodeBody n false (length g.bodies) g.sees b) g.bodies × FormedCodeGroups (suc n) gs
 
-  -- a group that is made pays for its functions and what they see
-  abbrev pub PaidGroups : List (Group code.Body) → Type 0
-  PaidGroups [] = ⊤
-  PaidGroups (g ∷ gs) = (2 * length g.bodies + g.sees ≤ 4 * (1 + code.nodes_of g.bodies)) × PaidGroups gs
-
   pub record FormedCode : Type 0 where
     pub groups : FormedCodeGroups 0 p.groups
-    pub paid : PaidGroups p.groups
     pub methods : AllByRecursion (λ m. FormedCodeBody (length p.groups) true 0 0 m.body) p.methods
     pub save : FormedCodeBody (length p.groups) false 0 0 p.save
     pub start : FormedCodeBody (length p.groups) false 0 0 p.start
     pub named : NamedMethods p
     pub few : counted_program (λ b. length b.segments) p ≤ most_functions
+
+-- ---- groups that see what their functions use
+
+-- a group that is made pays for its functions and what they see
+abbrev pub PaidGroups : List (Group code.Body) → Type 0
+PaidGroups [] = ⊤
+PaidGroups (g ∷ gs) = (2 * length g.bodies + g.sees ≤ 4 * (1 + code.nodes_of g.bodies)) × PaidGroups gs
+
+pub record FormedFlat (own : ℕ) (p : CodeProgram) : Type 0 where
+  pub code : FormedCode own p
+  pub paid : PaidGroups p.groups

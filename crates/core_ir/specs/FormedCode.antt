@@ -10,7 +10,7 @@ use Rattle.core_ir.specs.Code.{Code, Stop, Let, If, Match, Loop, Label, Branch, 
 
 -- ---- what a frame has to hold
 
--- the most operands of an instruction
+-- the most operands of an instruction that stand ready at once: what a group sees is read one after the other
 abbrev pub most_operands : Code → ℕ
 most_operands Stop = 0
 most_operands (Let t p xs c) = max (length xs) (most_operands c)
@@ -21,7 +21,7 @@ most_operands (Label b c) = max (most_operands b) (most_operands c)
 most_operands (Branch l) = 0
 most_operands (Leave j) = 0
 most_operands (Pass t x j) = 1
-most_operands (Make t seen k c) = max (length seen) (most_operands c)
+most_operands (Make t seen k c) = max 1 (most_operands c)
 most_operands (Call t f xs c) = max (suc (length xs)) (most_operands c)
 most_operands (Tabulate t n f c) = max 2 (most_operands c)
 most_operands (Send t s f xs h c) = max (suc (length xs)) (most_operands c)

@@ -1,6 +1,7 @@
 -- Expressions whose names, labels and groups are there, within bodies that pay for what they take.
-use Rattle.std.specs.Prelude.{◌≡◌, ℕ, suc, ◌+◌, ◌*◌, ◌<◌, ◌≤◌, max, Bool, true, length}
+use Rattle.std.specs.Prelude.{◌≡◌, ℕ, suc, ◌+◌, ◌*◌, ◌||◌, ◌<◌, ◌≤◌, max, Bool, true, cond, length}
 use Rattle.core_ir.specs.Arities.{arity, Takes, is_silent}
+use Rattle.core_ir.specs.Awaits.{awaits}
 use Rattle.core_ir.specs.Expressions.{Exp, Constant?, Name, Global, Do, Functions, Loop, Label, Try, Exps, NoExp, AnExp, Goal, Operate, Choose, Match, Bind, Call, Tabulate, Send, Throw, Await, Break, Return, Body}
 
 abbrev pub count : Exps → ℕ
@@ -51,6 +52,69 @@ module _ (sizes : ℕ → ℕ) where
     width_goal (Bind b) = width b
     width_goal g = 1
 
+-- ---- what the code of an expression takes besides
+
+-- the most arguments of one action
+abbrev mutual
+  pub arguments : Exp → ℕ
+  arguments (Do goal es) = max (count es) (max (arguments_goal goal) (arguments_all es))
+  arguments (Functions k b) = arguments b
+  arguments (Loop b) = arguments b
+  arguments (Label b) = arguments b
+  arguments (Try a b) = max (arguments a) (arguments b)
+  arguments e = 0
+
+  pub arguments_all : Exps → ℕ
+  arguments_all NoExp = 0
+  arguments_all (AnExp e es) = max (arguments e) (arguments_all es)
+
+  pub arguments_goal : Goal → ℕ
+  arguments_goal (Choose p a b) = max (arguments a) (arguments b)
+  arguments_goal (Match k a b) = max (arguments a) (arguments b)
+  arguments_goal (Bind b) = arguments b
+  arguments_goal g = 0
+
+-- how deep choices, loops, labels and handlers stand in one another; an expression with a handler stands two deep
+abbrev mutual
+  pub depth : Exp → ℕ
+  depth (Do goal es) = max (depth_goal goal) (depth_all es)
+  depth (Functions k b) = depth b
+  depth (Loop b) = suc (depth b)
+  depth (Label b) = suc (depth b)
+  depth (Try a b) = suc (max (suc (depth a)) (depth b))
+  depth e = 0
+
+  pub depth_all : Exps → ℕ
+  depth_all NoExp = 0
+  depth_all (AnExp e es) = max (depth e) (depth_all es)
+
+  pub depth_goal : Goal → ℕ
+  depth_goal (Choose p a b) = suc (max (depth a) (depth b))
+  depth_goal (Match k a b) = suc (max (depth a) (depth b))
+  depth_goal (Bind b) = depth b
+  depth_goal g = 0
+
+-- at how many places an execution of it may go on behind an `await`
+abbrev mutual
+  pub points : Exp → ℕ
+  points (Do goal es) = points_goal goal + points_all es
+  points (Functions k b) = points b
+  points (Loop b) = cond (awaits b) 1 0 + points b
+  points (Label b) = cond (awaits b) 1 0 + points b
+  points (Try a b) = cond (awaits a || awaits b) 2 0 + (points a + points b)
+  points e = 0
+
+  pub points_all : Exps → ℕ
+  points_all NoExp = 0
+  points_all (AnExp e es) = points e + points_all es
+
+  pub points_goal : Goal → ℕ
+  points_goal (Choose p a b) = cond (awaits a || awaits b) 1 0 + (points a + points b)
+  points_goal (Match k a b) = cond (awaits a || awaits b) 1 0 + (points a + points b)
+  points_goal (Bind b) = points b
+  points_goal Await = 1
+  points_goal g = 0
+
 -- ---- names, labels and groups
 
 -- Of groups, sizes tells how many functions they have, sees how many values they see, and those before `bound` are there. In the body of
@@ -89,4 +153,6 @@ module _ (sizes sees : ℕ → ℕ) (globals bound : ℕ) (shared : Bool) where
   pub record FormedBody (size seen : ℕ) (b : Body) : Type 0 where
     pub names : FormedExp (b.parameters + (size + seen)) 0 b.expression
     pub nested : nest b.expression ≤ b.nodes
-    pub wide : b.parameters + width sizes b.expression ≤ 2 * b.nodes + 20
+    pub points : points b.expression ≤ b.nodes
+    -- in words of a frame: the values that stand ready at once, the arguments of an action, and how deep it stands
+    pub frame : b.parameters + width sizes b.expression + 2 * max 2 (arguments b.expression) + depth b.expression ≤ 4 * b.nodes + 50

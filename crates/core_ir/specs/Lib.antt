@@ -23,7 +23,9 @@ pub mod ScopeNames
 pub mod CodeView
 pub mod ProgramView
 pub mod Arities
+pub mod Awaits
 pub mod FormedExpressions
+pub mod Outward
 pub mod FormedCode
 pub mod Formed
 pub mod ActorRows

@@ -29,12 +29,12 @@ no_more : (c y : ℕ) → 1 * c ≤ y → c ≤ y
 no_more c y h = omega (arithmetic, h)
 
 module _ (times : ℕ) (one : 1 ≤ times) {A B : Type 0} (Both : A → B → Type 0) where
-  trapping_follows : (text : List ℕ) → Follows times Both (trapping text) (trapping text)
+  pub trapping_follows : (text : List ℕ) → Follows times Both (trapping text) (trapping text)
   trapping_follows text zero = (zero, nothing_yet times one Both)
   trapping_follows text (suc k) =
       (suc k, record { prints_are = refl; weight = no_more (1 + length text) (times * (1 + length text)) (mul-le-mul_right (1 + length text) one); depth = omega arithmetic; completion = refl })
 
-  reading_follows : (cost : ReadingCost) (x : Execution A) (y : Execution B) → Follows times Both x y → Follows times Both (after_reading cost x) (after_reading cost y)
+  pub reading_follows : (cost : ReadingCost) (x : Execution A) (y : Execution B) → Follows times Both x y → Follows times Both (after_reading cost x) (after_reading cost y)
   reading_follows cost x y h k =
       let f = h k in
       let al : ProgressAlike times Both (x (f.0)) (y k) = f.1 in

@@ -177,15 +177,15 @@ module _ (sizes : ℕ → ℕ) (context : Context) (nodes : ℕ) (source : Core)
     chosen_whole a e y nay sy sn (Fails cost text) hv z st = fell cost [] world text st
     chosen_whole a e y nay sy sn done.Stuck hv z st = tt
 
-    chosen_cut : (j : ℕ) → slice_get f.body.segments j ≡ Some c → AllFar ls → (a e : Exp) (y nay : Code) → Splits sizes f.body.segments a t g ns ls (Leave j) y → Splits sizes f.body.segments e t g ns ls (Leave j) nay → (ans : Done) → Heavy ans → b ≡ 0 → code.step program context world s ≡ code.chosen world y nay Stop ks f cs ans → M (core.chosen source context nodes world a e env k ans)
+    chosen_cut : (j : ℕ) → slice_get f.body.segments j ≡ Some c → AllFar ls → (a e : Exp) (y nay : Code) → Splits sizes f.body.segments a t g ns ls (Leave j) y → Splits sizes f.body.segments e t g ns ls (Leave j) nay → (ans : Done) → Heavy ans → b ≡ 0 → code.step program context world s ≡ code.chosen world y nay (Leave j) ks f cs ans → M (core.chosen source context nodes world a e env k ans)
     chosen_cut j at far a e y nay sy sn (Gives cost v store) hv z st = flag_m v _ pick
       where
-        on_it : (x : Bool) → flag_of v ≡ Some x → code.step program context world s ≡ Go cost [] (with_store world store) (code.at (choose x y nay) (Within Stop ∷ ks) f cs)
-        on_it x i = st ∙ ap (λ o. on_some (code.stuck world) o (λ x. Go cost [] (with_store world store) (code.at (choose x y nay) (Within Stop ∷ ks) f cs))) i
+        on_it : (x : Bool) → flag_of v ≡ Some x → code.step program context world s ≡ Go cost [] (with_store world store) (code.at (choose x y nay) (Within (Leave j) ∷ ks) f cs)
+        on_it x i = st ∙ ap (λ o. on_some (code.stuck world) o (λ x. Go cost [] (with_store world store) (code.at (choose x y nay) (Within (Leave j) ∷ ks) f cs))) i
 
         pick : (x : Bool) → flag_of v ≡ Some x → M (Go cost [] (with_store world store) (s_at sizes context nodes source program (Eval (choose x a e) env) (Join ∷ k)))
-        pick true i = goes cost (with_store world store) a env (Join ∷ k) t g ns ls (Leave j) y (Within Stop ∷ ks) f cs (suc q) (join_cut f j at far (Within Stop ∷ ks) a env g ns y sy cont low refl below_g clear_g) (pays_cut a j) hv z (on_it true i)
-        pick false i = goes cost (with_store world store) e env (Join ∷ k) t g ns ls (Leave j) nay (Within Stop ∷ ks) f cs (suc q) (join_cut f j at far (Within Stop ∷ ks) e env g ns nay sn cont low refl below_g clear_g) (pays_cut e j) hv z (on_it false i)
+        pick true i = goes cost (with_store world store) a env (Join ∷ k) t g ns ls (Leave j) y (Within (Leave j) ∷ ks) f cs (suc q) (join_cut f j at far (Within (Leave j) ∷ ks) a env g ns y sy cont low refl below_g clear_g) (pays_cut a j) hv z (on_it true i)
+        pick false i = goes cost (with_store world store) e env (Join ∷ k) t g ns ls (Leave j) nay (Within (Leave j) ∷ ks) f cs (suc q) (join_cut f j at far (Within (Leave j) ∷ ks) e env g ns nay sn cont low refl below_g clear_g) (pays_cut e j) hv z (on_it false i)
     chosen_cut j at far a e y nay sy sn (Prints cost text) hv z st = tt
     chosen_cut j at far a e y nay sy sn (Fails cost text) hv z st = fell cost [] world text st
     chosen_cut j at far a e y nay sy sn done.Stuck hv z st = tt
@@ -211,9 +211,9 @@ module _ (sizes : ℕ → ℕ) (context : Context) (nodes : ℕ) (source : Core)
     matched_whole a e y nay sy sn Otherwise z st = goes (weighing 1) world e env (Join ∷ k) t (suc g) ns (Other ∷ ls) Stop nay (Within c ∷ ks) f cs q (join_whole f e env (suc g) ns nay sn cont low_s refl (below_all sizes context nodes source base (suc g) ns low_s below) (clear_more sizes context nodes source t base (suc g) ns low_s clear)) (pays_whole e) (omega arithmetic) z st
     matched_whole a e y nay sy sn NotOne z st = tt
 
-    matched_cut : (j : ℕ) → slice_get f.body.segments j ≡ Some c → AllFar ls → (a e : Exp) (y nay : Code) → Splits sizes f.body.segments a t (suc g) (Slot g ∷ ns) ls (Leave j) y → Splits sizes f.body.segments e t (suc g) ns ls (Leave j) nay → (o : Opened) → b ≡ 0 → code.step program context world s ≡ code.matched world g y nay Stop ks f cs o → M (core.matched source context nodes world a e env k o)
-    matched_cut j at far a e y nay sy sn (Inside v) z st = goes (weighing 1) world a (v ∷ env) (Join ∷ k) t (suc g) (Slot g ∷ ns) ls (Leave j) y (Within Stop ∷ ks) (put f g v) cs (suc q) (join_cut (put f g v) j at far (Within Stop ∷ ks) a (v ∷ env) (suc g) (Slot g ∷ ns) y sy (cont_put v) low_s (scope_put v) below_put clear_put) (pays_cut a j) (omega arithmetic) z st
-    matched_cut j at far a e y nay sy sn Otherwise z st = goes (weighing 1) world e env (Join ∷ k) t (suc g) ns ls (Leave j) nay (Within Stop ∷ ks) f cs (suc q) (join_cut f j at far (Within Stop ∷ ks) e env (suc g) ns nay sn cont low_s refl (below_all sizes context nodes source base (suc g) ns low_s below) (clear_more sizes context nodes source t base (suc g) ns low_s clear)) (pays_cut e j) (omega arithmetic) z st
+    matched_cut : (j : ℕ) → slice_get f.body.segments j ≡ Some c → AllFar ls → (a e : Exp) (y nay : Code) → Splits sizes f.body.segments a t (suc g) (Slot g ∷ ns) ls (Leave j) y → Splits sizes f.body.segments e t (suc g) ns ls (Leave j) nay → (o : Opened) → b ≡ 0 → code.step program context world s ≡ code.matched world g y nay (Leave j) ks f cs o → M (core.matched source context nodes world a e env k o)
+    matched_cut j at far a e y nay sy sn (Inside v) z st = goes (weighing 1) world a (v ∷ env) (Join ∷ k) t (suc g) (Slot g ∷ ns) ls (Leave j) y (Within (Leave j) ∷ ks) (put f g v) cs (suc q) (join_cut (put f g v) j at far (Within (Leave j) ∷ ks) a (v ∷ env) (suc g) (Slot g ∷ ns) y sy (cont_put v) low_s (scope_put v) below_put clear_put) (pays_cut a j) (omega arithmetic) z st
+    matched_cut j at far a e y nay sy sn Otherwise z st = goes (weighing 1) world e env (Join ∷ k) t (suc g) ns ls (Leave j) nay (Within (Leave j) ∷ ks) f cs (suc q) (join_cut f j at far (Within (Leave j) ∷ ks) e env (suc g) ns nay sn cont low_s refl (below_all sizes context nodes source base (suc g) ns low_s below) (clear_more sizes context nodes source t base (suc g) ns low_s clear)) (pays_cut e j) (omega arithmetic) z st
     matched_cut j at far a e y nay sy sn NotOne z st = tt
 
     lone_callers : (k : List core.Frame) (D : Dest) (h : ℕ) (ls : List Kind) (c : Code) (ks : List Around) (f : code.Frame) (cs : List code.Caller) (q : ℕ) → core.is_lone k ≡ true → Ct sizes context nodes source program k D h ls c ks f cs q → cs ≡ []
@@ -405,15 +405,15 @@ module _ (sizes : ℕ → ℕ) (context : Context) (nodes : ℕ) (source : Core)
             let r = runs_at b (If o xs y.m y.n c) ks f place_now (at_code d _ y.is ps) tt in
             chosen_whole a e' y.m y.n y.yes y.no (perform context.head world.store o (values context.globals f xs)) (heavy o (values context.globals f xs)) r.0 (at_place sizes context nodes source program world s (If o xs y.m y.n c) ks r.1)
         acted (Choose o a e') xs d (inr y) be aps ps sm =
-            let r = runs_at b (If o xs y.m y.n Stop) ks f place_now (at_code d _ y.is ps) tt in
-            chosen_cut y.j y.here y.far a e' y.m y.n y.yes y.no (perform context.head world.store o (values context.globals f xs)) (heavy o (values context.globals f xs)) r.0 (at_place sizes context nodes source program world s (If o xs y.m y.n Stop) ks r.1)
+            let r = runs_at b (If o xs y.m y.n (Leave y.j)) ks f place_now (at_code d _ y.is ps) tt in
+            chosen_cut y.j y.here y.far a e' y.m y.n y.yes y.no (perform context.head world.store o (values context.globals f xs)) (heavy o (values context.globals f xs)) r.0 (at_place sizes context nodes source program world s (If o xs y.m y.n (Leave y.j)) ks r.1)
         acted (exp.Match sh a e') [] d y be aps ps sm = tt
         acted (exp.Match sh a e') (x ∷ []) d (inl y) be aps ps sm =
             let r = runs_at b (Match g sh x y.m y.n c) ks f place_now (at_code d _ y.is ps) tt in
             matched_whole a e' y.m y.n y.yes y.no (opened sh (value context.globals f x)) r.0 (at_place sizes context nodes source program world s (Match g sh x y.m y.n c) ks r.1)
         acted (exp.Match sh a e') (x ∷ []) d (inr y) be aps ps sm =
-            let r = runs_at b (Match g sh x y.m y.n Stop) ks f place_now (at_code d _ y.is ps) tt in
-            matched_cut y.j y.here y.far a e' y.m y.n y.yes y.no (opened sh (value context.globals f x)) r.0 (at_place sizes context nodes source program world s (Match g sh x y.m y.n Stop) ks r.1)
+            let r = runs_at b (Match g sh x y.m y.n (Leave y.j)) ks f place_now (at_code d _ y.is ps) tt in
+            matched_cut y.j y.here y.far a e' y.m y.n y.yes y.no (opened sh (value context.globals f x)) r.0 (at_place sizes context nodes source program world s (Match g sh x y.m y.n (Leave y.j)) ks r.1)
         acted (exp.Match sh a e') (x ∷ w ∷ xs) d y be aps ps sm = tt
         acted (Bind e') [] d y be aps ps sm = tt
         acted (Bind e') (x ∷ []) d y be aps ps sm = binds e' x d y (be.0) (λ u i. (aps u i).0) ps sm

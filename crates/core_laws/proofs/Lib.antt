@@ -31,4 +31,13 @@ pub mod FineCode
 pub mod OrderedSplits
 pub mod Composition
 pub mod FormedPrograms
+pub mod FormedPieces
+pub mod SegmentCounts
+pub mod SmallCode
+pub mod FormedSplits
+pub mod FormedBodies
+pub mod FormedCodes
+pub mod FormedConversion
+pub mod UsesCounted
+pub mod NamedUses
 pub mod Settled

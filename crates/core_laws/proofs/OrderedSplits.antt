@@ -66,14 +66,14 @@ earlier_groups sizes n (g ∷ gs) h = (earlier_bodies n sizes (length g.bodies) 
 
 -- ---- bodies without a group
 
-abbrev Own : Operand → Type 0
+abbrev pub Own : Operand → Type 0
 Own (Slot x) = Unit {0}
 Own (Captured x) = ⊥
 Own (Member m) = Unit {0}
 Own (Global i) = Unit {0}
 Own (Constant k) = Unit {0}
 
-abbrev Each : ℕ → Type 0
+abbrev pub Each : ℕ → Type 0
 Each k = Unit {0}
 
 mutual
@@ -145,7 +145,7 @@ module _ (needs : List (List ℕ)) where
   uses_none (Raise x k) h = used x h
   uses_none (Return x) h = used x h
 
-  segments_none : (cs : List Code) → AllFine Each Own cs → uses_segments needs cs [] ≡ []
+  pub segments_none : (cs : List Code) → AllFine Each Own cs → uses_segments needs cs [] ≡ []
   segments_none [] h = refl
   segments_none (c ∷ cs) h = ap (uses_segments needs cs) (uses_none c (h.0)) ∙ segments_none cs (h.1)
 

@@ -17,7 +17,7 @@ use Rattle.core_laws.specs.Split.{Segments, Emitted, awaits, awaits_all, awaits_
 use Rattle.core_laws.specs.Splits.{Here}
 
 -- what stands in the one stands in the other
-abbrev Pre : Segments → Segments → Type 0
+abbrev pub Pre : Segments → Segments → Type 0
 Pre s t = (j : ℕ) (o : Option Code) → slice_get s j ≡ Some o → slice_get t j ≡ Some o
 
 pre_add : (s : Segments) (x : Option Code) → Pre s (s ++ x ∷ [])
@@ -25,7 +25,7 @@ pre_add [] x j o e = absurd (let y : None ≡ Some o = e in cc)
 pre_add (y ∷ s) x zero o e = e
 pre_add (y ∷ s) x (suc j) o e = pre_add s x j o e
 
-pre_trans : (s t u : Segments) → Pre s t → Pre t u → Pre s u
+pub pre_trans : (s t u : Segments) → Pre s t → Pre t u → Pre s u
 pre_trans s t u f g j o e = g j o (f j o e)
 
 at_end : (s : Segments) (x : Option Code) → slice_get (s ++ x ∷ []) (length s) ≡ Some x
@@ -58,23 +58,23 @@ module _ (sizes : ℕ → ℕ) where
   abbrev sx : Exp → Option ℕ → ℕ → List Operand → List Kind → Code → Segments → Emitted
   sx = split_exp sizes
 
-  joint_pre : (b : Bool) (ls : List Kind) (c : Code) (s : Segments) → Pre s (joint b ls c s).segments
+  pub joint_pre : (b : Bool) (ls : List Kind) (c : Code) (s : Segments) → Pre s (joint b ls c s).segments
   joint_pre false ls c s = λ j o e. e
   joint_pre true ls c s = pre_add s (Some c)
 
-  labelled_pre : (b : Bool) (t : Option ℕ) (ls : List Kind) (c : Code) (s : Segments) → Pre s (labelled b t ls c s).segments
+  pub labelled_pre : (b : Bool) (t : Option ℕ) (ls : List Kind) (c : Code) (s : Segments) → Pre s (labelled b t ls c s).segments
   labelled_pre false t ls c s = λ j o e. e
   labelled_pre true t ls c s = pre_add s (Some c)
 
-  looping_pre : (b : Bool) (ls : List Kind) (s : Segments) → Pre s (looping b ls s).segments
+  pub looping_pre : (b : Bool) (ls : List Kind) (s : Segments) → Pre s (looping b ls s).segments
   looping_pre false ls s = λ j o e. e
   looping_pre true ls s = pre_add s None
 
-  looped_pre : (b : Bool) (m c : Code) (s t : Segments) → Pre s t → Pre s ((looped b m c (length s) t).segments)
+  pub looped_pre : (b : Bool) (m c : Code) (s t : Segments) → Pre s t → Pre s ((looped b m c (length s) t).segments)
   looped_pre false m c s t f = f
   looped_pre true m c s t f = pre_set s t (Some m) f
 
-  catching_pre : (b : Bool) (h : ℕ) (ls : List Kind) (c m : Code) (s : Segments) → Pre s (catching b h ls c m s).segments
+  pub catching_pre : (b : Bool) (h : ℕ) (ls : List Kind) (c m : Code) (s : Segments) → Pre s (catching b h ls c m s).segments
   catching_pre false h ls c m s = λ j o e. e
   catching_pre true h ls c m s = pre_add s (Some m)
 
@@ -100,13 +100,13 @@ module _ (sizes : ℕ → ℕ) where
         let p = catching (awaits a || awaits b) h ls q.next r.code r.segments in
         pre_trans _ _ _ (joint_pre (awaits a || awaits b) ls c s) (pre_trans _ _ _ (keeps b t (suc h) (Slot h ∷ ns) q.around q.next q.segments) (pre_trans _ _ _ (catching_pre (awaits a || awaits b) h ls q.next r.code r.segments) (keeps a t (suc h) ns p.around p.next p.segments)))
 
-    keeps_all : (es : Exps) (h : ℕ) (ns : List Operand) (ls : List Kind) (c : Code) (s : Segments) → Pre s ((split_all sizes es h ns ls c s).segments)
+    pub keeps_all : (es : Exps) (h : ℕ) (ns : List Operand) (ls : List Kind) (c : Code) (s : Segments) → Pre s ((split_all sizes es h ns ls c s).segments)
     keeps_all NoExp h ns ls c s = λ j o e. e
     keeps_all (AnExp e es) h ns ls c s =
         let r = split_all sizes es (suc h) ns ls c s in
         pre_trans _ _ _ (keeps_all es (suc h) ns ls c s) (keeps e (place e h) (suc h) ns ls r.code r.segments)
 
-    keeps_goal : (g : Goal) (xs : List Operand) (t : Option ℕ) (h : ℕ) (ns : List Operand) (ls : List Kind) (c : Code) (s : Segments) → Pre s ((split_goal sizes g xs t h ns ls c s).segments)
+    pub keeps_goal : (g : Goal) (xs : List Operand) (t : Option ℕ) (h : ℕ) (ns : List Operand) (ls : List Kind) (c : Code) (s : Segments) → Pre s ((split_goal sizes g xs t h ns ls c s).segments)
     keeps_goal (Operate o) xs t h ns ls c s = λ j o e. e
     keeps_goal (Choose o a b) xs t h ns ls c s =
         let q = joint (awaits a || awaits b) ls c s in

@@ -59,7 +59,7 @@ needs_stay (g ∷ gs) needs k h =
     needs_stay gs (needs ++ uses_bodies needs g.bodies [] ∷ []) k (subst (λ n. k < n) (sym (longer needs (uses_bodies needs g.bodies []))) (omega (arithmetic, h)))
     ∙ nth_before needs (uses_bodies needs g.bodies []) k h
 
-all_suffice : (gs : List (Group Body)) (needs : List (List ℕ)) (n : ℕ) → length needs ≡ n → EarlierGroups n gs → (k : ℕ) (g : Group Body) → slice_get gs k ≡ Some g
+pub all_suffice : (gs : List (Group Body)) (needs : List (List ℕ)) (n : ℕ) → length needs ≡ n → EarlierGroups n gs → (k : ℕ) (g : Group Body) → slice_get gs k ≡ Some g
     → SeesBodies (needs_of needs gs) (nth [] (needs_of needs gs) (n + k)) g.bodies
 all_suffice [] needs n e h k g i = absurd (let x : None ≡ Some g = i in cc)
 all_suffice (g ∷ gs) needs n e h zero g' i =

@@ -11,13 +11,14 @@ use Rattle.core_ir.specs.CoreMachine.{core_machine}
 use Rattle.core_ir.specs.Code.{CodeProgram}
 use Rattle.core_ir.specs.CodeMachine as code
 use Rattle.core_ir.specs.CodeMachine.{code_machine}
-use Rattle.core_ir.specs.Formed.{FormedCore}
+use Rattle.core_ir.specs.Formed.{FormedCore, FormedFlat}
 use Rattle.core_ir.specs.Messages.{Messages}
 use Rattle.core_ir.specs.Actor.{actor_program}
 use Rattle.core_laws.specs.Carried.{Anew, Carries}
 use Rattle.core_laws.specs.Conversion.{convert_program}
 use Rattle.core_laws.specs.Converted.{world_as, Ordered}
 use Rattle.core_laws.specs.Followed.{Followed}
+use Rattle.core_laws.specs.FormedSplits.{FormedSplit}
 use Rattle.core_laws.specs.Makes.{MakesEarlier}
 use Rattle.core_laws.specs.Nested.{Nested}
 use Rattle.core_laws.specs.Split.{split_program}
@@ -68,6 +69,19 @@ PassesFollow Kept =
 -- Formed programs, of actors with so many own names, are such programs.
 abbrev pub FormedQualify : Type 0
 FormedQualify = (own : ℕ) (p : Core) → FormedCore own p → Nested p × MakesEarlier p
+
+-- ---- forms
+
+-- Of a formed program splitting makes one, and of a formed split program conversion.
+abbrev pub SplittingForms : Type 0
+SplittingForms = (own : ℕ) (p : Core) → FormedCore own p → FormedSplit own (split_program p)
+
+abbrev pub ConversionForms : Type 0
+ConversionForms = (own : ℕ) (p : CodeProgram) → FormedSplit own p → FormedFlat own (convert_program p)
+
+-- In formed split programs groups make groups before them alone, and the bodies that are entered use nothing that a group sees.
+abbrev pub FormedOrder : Type 0
+FormedOrder = (own : ℕ) (p : CodeProgram) → FormedSplit own p → Ordered p
 
 -- Executions that have ended stay as they are, by any machine.
 abbrev pub ProgramsSettle : (State Waiting Kept Body : Type 0) → Type 0

@@ -8,6 +8,7 @@ pub mod Earlier
 pub mod Converted
 pub mod Nested
 pub mod Carried
+pub mod FormedSplits
 pub mod Laws
 pub mod Rows
 pub mod Following

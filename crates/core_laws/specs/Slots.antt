@@ -9,6 +9,7 @@ use Rattle.core_ir.specs.Choices.{on_some}
 use Rattle.core_ir.specs.Expressions as tree
 use Rattle.core_ir.specs.Expressions.{Exp, Constant?, Name, Exps, NoExp, AnExp}
 use Rattle.core_ir.specs.Code.{Code, Let, Branch, Leave, Pass}
+pub use Rattle.core_ir.specs.FormedExpressions.{count}
 pub use Rattle.core_ir.specs.ScopeNames.{name_at, slots_from, members_from, captured_from}
 
 -- the operand that reads the expression's value, which is in slot h if it is computed
@@ -29,10 +30,6 @@ place e h = Some h
 abbrev pub operands : List Operand → Exps → ℕ → List Operand
 operands names NoExp h = []
 operands names (AnExp e es) h = operand names e h ∷ operands names es (suc h)
-
-abbrev pub count : Exps → ℕ
-count NoExp = 0
-count (AnExp e es) = suc (count es)
 
 -- the first operand, and the others
 abbrev pub first : List Operand → Operand

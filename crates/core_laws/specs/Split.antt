@@ -1,37 +1,17 @@
 -- From nested expressions to segments of structured code over slots, as a function: code is made from its end.
-use Rattle.std.specs.Prelude.{ℕ, zero, suc, ◌+◌, ◌||◌, Bool, true, false, List, [], ◌∷◌, ◌++◌, length, map, max, Option, Some, None, slice_set}
+use Rattle.std.specs.Prelude.{ℕ, suc, ◌+◌, ◌||◌, Bool, true, false, List, [], ◌∷◌, ◌++◌, length, map, Option, Some, None, slice_set}
 use Rattle.core_ir.specs.declared.code.Operand.{Operand}
 use Rattle.core_ir.specs.declared.code.Operand.TheVariants.{Slot, Global, Constant}
-use Rattle.core_ir.specs.declared.code.Handler.{Handler}
 use Rattle.core_ir.specs.Programs.{Group, Method}
 use Rattle.core_ir.specs.Expressions as tree
 use Rattle.core_ir.specs.Expressions.{Exp, Constant?, Name, Do, Functions, Try, Exps, NoExp, AnExp, Goal, Operate, Choose, Bind, Throw, Await, Break, Core}
+pub use Rattle.core_ir.specs.Awaits.{awaits, awaits_all, awaits_goal}
+pub use Rattle.core_ir.specs.Formed.{size_at}
+use Rattle.core_ir.specs.FormedExpressions.{width}
 use Rattle.core_ir.specs.Code as code
 use Rattle.core_ir.specs.Code.{Code, Stop, Let, If, Match, Loop, Label, Branch, Leave, Pass, Make, Call, Tabulate, Send, Wait, Raise, Return, CodeProgram}
 use Rattle.core_laws.specs.Around.{Kind, Other, LabelHere, LabelAt, HandlerHere, HandlerAt, way, target, handler}
 use Rattle.core_laws.specs.Slots.{name_at, operands, place, count, first, others, slots_from, members_from, captured_from, slot, move, jump}
-
--- ---- an `await` in the body itself; those of its functions stand in bodies of their own
-
-abbrev mutual
-  pub awaits : Exp → Bool
-  awaits (Do goal es) = awaits_goal goal || awaits_all es
-  awaits (Functions k b) = awaits b
-  awaits (tree.Loop b) = awaits b
-  awaits (tree.Label b) = awaits b
-  awaits (Try a b) = awaits a || awaits b
-  awaits e = false
-
-  pub awaits_all : Exps → Bool
-  awaits_all NoExp = false
-  awaits_all (AnExp e es) = awaits e || awaits_all es
-
-  pub awaits_goal : Goal → Bool
-  awaits_goal (Choose p a b) = awaits a || awaits b
-  awaits_goal (tree.Match k a b) = awaits a || awaits b
-  awaits_goal (Bind b) = awaits b
-  awaits_goal Await = true
-  awaits_goal g = false
 
 -- ---- constructs, whole or cut
 
@@ -46,7 +26,7 @@ pub record Emitted : Type 0 where
 abbrev pub emitted : Code → Segments → Emitted
 emitted c segments = record { code = c; segments = segments }
 
--- how the parts of a construct go on, and what follows it
+-- how the parts of a construct go on, and what follows it; behind one that is cut nothing is reached
 pub record Joint : Type 0 where
   pub around : List Kind
   pub next : Code
@@ -55,7 +35,7 @@ pub record Joint : Type 0 where
 
 abbrev pub joint : Bool → List Kind → Code → Segments → Joint
 joint false ls c segs = record { around = Other ∷ ls; next = Stop; after = c; segments = segs }
-joint true ls c segs = record { around = ls; next = Leave (length segs); after = Stop; segments = segs ++ Some c ∷ [] }
+joint true ls c segs = record { around = ls; next = Leave (length segs); after = Leave (length segs); segments = segs ++ Some c ∷ [] }
 
 abbrev pub labelled : Bool → Option ℕ → List Kind → Code → Segments → Joint
 labelled false t ls c segs = record { around = LabelHere t ∷ ls; next = Stop; after = c; segments = segs }
@@ -78,10 +58,6 @@ catching true h ls next b segs = record { around = HandlerAt (length segs) h ∷
 abbrev pub enclosed : Bool → Code → Code → Code
 enclosed false b c = Label b c
 enclosed true b c = b
-
-abbrev pub slot_above : Option Handler → ℕ
-slot_above None = 0
-slot_above (Some h) = suc h.slot
 
 abbrev pub code_or_stop : Option Code → Code
 code_or_stop None = Stop
@@ -147,47 +123,20 @@ module _ (sizes : ℕ → ℕ) where
 
   -- ---- bodies
 
-  -- the least number that is above each slot of the code
-  abbrev pub above : Code → ℕ
-  above Stop = 0
-  above (Let t p xs c) = max (suc t) (above c)
-  above (If p xs y n c) = max (above y) (max (above n) (above c))
-  above (Match t k x y n c) = max (suc t) (max (above y) (max (above n) (above c)))
-  above (Loop b c) = max (above b) (above c)
-  above (Label b c) = max (above b) (above c)
-  above (Branch l) = 0
-  above (Leave j) = 0
-  above (Pass t x j) = suc t
-  above (Make t seen k c) = max (t + sizes k) (above c)
-  above (Call t f xs c) = max (suc t) (above c)
-  above (Tabulate t n f c) = max (suc t) (above c)
-  above (Send t s f xs h c) = max (slot_above h) (max (suc t) (above c))
-  above (Wait t x h j) = max (slot_above h) (suc t)
-  above (Raise x h) = slot_above h
-  above (Return x) = 0
-
-  abbrev pub above_all : List Code → ℕ
-  above_all [] = 0
-  above_all (c ∷ cs) = max (above c) (above_all cs)
-
-  -- in a group of so many functions, which sees so many values
+  -- In a group of so many functions, which sees so many values. Its slots are its parameters, one for each value that stands ready
+  -- besides, and one for its own value.
   abbrev pub split_body : ℕ → ℕ → tree.Body → code.Body
   split_body n sees f =
       let r = split_exp (Do tree.Return (AnExp f.expression NoExp)) None f.parameters
       (slots_from 0 f.parameters ++ (members_from 0 n ++ captured_from 0 sees)) [] Stop (None ∷ []) in
       let segments = map code_or_stop (slice_set r.segments 0 (Some r.code)) in
-      record { parameters = f.parameters; slots = max f.parameters (above_all segments); nodes = f.nodes; segments = segments }
+      record { parameters = f.parameters; slots = suc (f.parameters + width sizes f.expression); nodes = f.nodes; segments = segments }
 
   abbrev pub split_group : Group tree.Body → Group code.Body
   split_group g = record { sees = g.sees; bodies = map (split_body (length g.bodies) g.sees) g.bodies }
 
   abbrev pub split_method : Method tree.Body → Method code.Body
   split_method m = record { name = m.name; query = m.query; signature = m.signature; body = split_body 0 0 m.body }
-
-abbrev pub size_at : List (Group tree.Body) → ℕ → ℕ
-size_at [] k = 0
-size_at (g ∷ gs) zero = length g.bodies
-size_at (g ∷ gs) (suc k) = size_at gs k
 
 abbrev pub split_program : Core → CodeProgram
 split_program p = record {

@@ -75,7 +75,7 @@ module _ (sizes : ℕ → ℕ) (segments : List Code) where
           here : Is j c;
           yes : Splits a t h names ls (Leave j) m;
           no : Splits b t h names ls (Leave j) n;
-          is : d ≡ If p xs m n Stop;
+          is : d ≡ If p xs m n (Leave j);
         })
     SplitsGoal (tree.Match k a b) xs t h names ls c d =
         (record {
@@ -93,7 +93,7 @@ module _ (sizes : ℕ → ℕ) (segments : List Code) where
           here : Is j c;
           yes : Splits a t (suc h) (Slot h ∷ names) ls (Leave j) m;
           no : Splits b t (suc h) names ls (Leave j) n;
-          is : d ≡ Match h k (first xs) m n Stop;
+          is : d ≡ Match h k (first xs) m n (Leave j);
         })
     SplitsGoal (Bind b) xs t h names ls c d = Splits b t h (first xs ∷ names) ls c d
     SplitsGoal tree.Call xs t h names ls c d = d ≡ Call (slot t h) (first xs) (others xs) c

@@ -1,5 +1,5 @@
 //! Passes keep what programs do.
-ghost use Rattle.core_laws.specs.Laws.{ConversionCarries, ConversionFollows, FormedQualify, PassesCarry, PassesFollow, ProgramsSettle, SplittingCarries, SplittingFollows};
+ghost use Rattle.core_laws.specs.Laws.{ConversionCarries, ConversionFollows, ConversionForms, FormedOrder, FormedQualify, PassesCarry, PassesFollow, ProgramsSettle, SplittingCarries, SplittingFollows, SplittingForms};
 
 /// The actor of a converted program follows that of the program: after each number of turns of an execution it has printed and
 /// weighs what the other one has after some, and where it has ended, the other one has ended alike.
@@ -12,6 +12,11 @@ pub fn conversion_carries_executions()
     ensures { ConversionCarries }
 {}
 
+/// Of a formed split program conversion makes a formed one, whose groups pay for what they see.
+pub fn conversion_keeps_form()
+    ensures { ConversionForms }
+{}
+
 /// What the laws ask of programs, formed programs have: bodies nest no more than they have nodes, and groups make groups before
 /// them alone.
 pub fn formed_programs_qualify()
@@ -21,6 +26,12 @@ pub fn formed_programs_qualify()
 /// The actor of a program that was split and converted follows that of the program.
 pub fn passes_carry_actors<Kept>()
     ensures { PassesFollow Kept }
+{}
+
+/// What conversion asks of split programs, formed ones have: groups make groups before them alone, and the bodies that are entered
+/// use nothing that a group sees.
+pub fn formed_split_programs_qualify()
+    ensures { FormedOrder }
 {}
 
 /// A program that was split and converted does what the program does, at no more than twice the weight and no greater depth. Of the
@@ -43,4 +54,9 @@ pub fn splitting_carries_actors<Kept>()
 /// each one behind it.
 pub fn splitting_carries_executions()
     ensures { SplittingCarries }
+{}
+
+/// Of a formed program splitting makes a formed one.
+pub fn splitting_keeps_form()
+    ensures { SplittingForms }
 {}

@@ -5,6 +5,7 @@ ghost use Rattle.core_ir.specs.CodeMachine.{code_machine};
 ghost use Rattle.core_ir.specs.CoreMachine.{core_machine};
 ghost use Rattle.core_ir.specs.Drives.{are_within};
 ghost use Rattle.core_ir.specs.Examples.{examples};
+ghost use Rattle.core_ir.specs.Formed.{FormedCore};
 ghost use Rattle.core_ir.specs.Rows.{answers, await_rows, plain_rows, refused_rows, saved, started, wanted, wanted_saved, wanted_started};
 ghost use Rattle.core_laws.specs.Nested.{Nested};
 ghost use Rattle.core_laws.specs.Rows.{all_counted, flat_examples, split_examples};
@@ -17,6 +18,11 @@ pub fn converted_examples_are_as_wanted()
     ensures started { started (code_machine flat_examples) ≡ wanted_started }
     ensures saved { saved (code_machine flat_examples) ≡ wanted_saved }
     ensures actor { plays (code_machine flat_examples) flat_examples day ≡ wanted_day }
+{}
+
+/// The examples are formed, of an actor with one own name.
+pub fn examples_are_formed()
+    ensures { FormedCore 1 examples }
 {}
 
 /// The law of splitting speaks of the examples.

@@ -1,6 +1,5 @@
 -- Bodies, and programs of them.
 use Rattle.std.proofs.Common.{◌≡◌, ℕ, suc, ◌+◌, refl, sym, ap, ◌∙◌, List, [], ◌∷◌, ◌++◌, map, reverse, set, Option, Some, None, arith}
-use Rattle.std.specs.Prelude.{max}
 use Rattle.std.proofs.lemmas.List.{append_assoc, map-append, map-set, reverse-append}
 use Rattle.core_ir.specs.declared.code.Code.{Code as CodeTree}
 use Rattle.core_ir.specs.declared.code.Operand.{Operand}
@@ -9,10 +8,11 @@ use Rattle.core_ir.specs.declared.scopes.Outermost.{Outermost}
 use Rattle.core_ir.specs.Code as code
 use Rattle.core_ir.specs.Code.{Code, Return}
 use Rattle.core_ir.specs.CodeView.{Names, code_body, code_of}
+use Rattle.core_ir.specs.FormedExpressions.{width}
 use Rattle.core_ir.specs.ScopeNames.{outermost_names, scope_names}
 use Rattle.core_ir.specs.View.{core_body, expression}
 use Rattle.core_laws.specs.Slots.{operand, place}
-use Rattle.core_laws.specs.Split.{Emitted, emitted, above_all, code_or_stop, split_body, split_exp}
+use Rattle.core_laws.specs.Split.{Emitted, emitted, code_or_stop, split_body, split_exp}
 use Rattle.suspend_split.specs.declared.draft.Segments.{Segments as DraftSegments}
 use Rattle.suspend_split.specs.declared.draft.State.{State}
 use Rattle.suspend_split.specs.Drafts.{draft_code, segment_code, segments_code}
@@ -26,16 +26,16 @@ filled_more names rest x made y e =
     ∙ sym (append_assoc (map code_or_stop (map (segment_code names) rest)) (code_or_stop (segment_code names x) ∷ []) (map (λ c. code_of c names) (reverse made)))
     ∙ ap (λ ys. ys ++ map (λ c. code_of c names) (reverse made)) (sym (ap (map code_or_stop) (map-append (segment_code names) rest (x ∷ [])) ∙ map-append code_or_stop (map (segment_code names) rest) (segment_code names x ∷ [])))
 
-pub body_is : (sizes : List ℕ) (functions sees : ℕ) (b : CoreBody) (a z : State) (filled : DraftSegments) (whole : CodeTree) (made : List CodeTree) (x : Operand) (t : Option ℕ) (free first room slots : ℕ)
+pub body_is : (sizes : List ℕ) (functions sees : ℕ) (b : CoreBody) (a z : State) (filled : DraftSegments) (whole : CodeTree) (made : List CodeTree) (x : Operand) (t : Option ℕ) (free first slots : ℕ)
     → ((names : Names) → draft_code names a.draft ≡ Return x) → a.segments.list.items ≡ None ∷ [] → a.scopes ≡ [] → a.around ≡ []
     → x ≡ operand (scope_names a.scopes (record { parameters = b.parameters; functions = functions; sees = sees }) 0) (expression b.expression) b.parameters
     → t ≡ place (expression b.expression) b.parameters → free ≡ b.parameters + 1
     → Makes (record { parameters = b.parameters; functions = functions; sees = sees }) a z (λ names ls c segments. split_exp (size_of sizes) (expression b.expression) t free (names 0) ls c segments)
     → first ≡ 0 → filled.list.items ≡ set z.segments.list.items first (Some whole) → ((names : Names) → code_of whole names ≡ draft_code names z.draft)
-    → ((names : Names) → map (λ c. code_of c names) made ≡ map code_or_stop (map (segment_code names) filled.list.items)) → ((names : Names) → room ≡ above_all (size_of sizes) (map (λ c. code_of c names) made)) → slots ≡ max b.parameters room
+    → ((names : Names) → map (λ c. code_of c names) made ≡ map code_or_stop (map (segment_code names) filled.list.items)) → slots ≡ suc (b.parameters + width (size_of sizes) (expression b.expression))
     → code_body functions sees (record { parameters = b.parameters; slots = slots; nodes = b.nodes; scopes = z.scopes; segments = made }) ≡ split_body (size_of sizes) functions sees (core_body b)
-body_is sizes functions sees b a z filled whole made x t free first room slots dr sg sc ar xe te fe m fi se we me ro sl =
-    ap (λ s. made_body s (map (λ c. code_of c names) made)) (sl ∙ ap (max b.parameters) (ro names ∙ ap (above_all (size_of sizes)) segments_are)) ∙ ap (made_body (max b.parameters (above_all (size_of sizes) wanted))) segments_are
+body_is sizes functions sees b a z filled whole made x t free first slots dr sg sc ar xe te fe m fi se we me sl =
+    ap (λ s. made_body s (map (λ c. code_of c names) made)) sl ∙ ap (made_body (suc (b.parameters + width (size_of sizes) (expression b.expression)))) segments_are
   where
     o : Outermost
     o = record { parameters = b.parameters; functions = functions; sees = sees }

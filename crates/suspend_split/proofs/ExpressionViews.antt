@@ -14,7 +14,7 @@ use Rattle.core_ir.specs.declared.code.Operand.TheVariants.{Slot}
 use Rattle.core_ir.specs.Expressions as tree
 use Rattle.core_ir.specs.Expressions.{Exp}
 use Rattle.core_ir.specs.View.{BindingView, binding_step, expression_step, goal_step, exps, expression, goal, binding, block}
-use Rattle.core_laws.specs.Slots.{operand, place}
+use Rattle.core_laws.specs.Slots.{count, operand, place}
 
 pub block_is : (bs : List Binding) (x : Expression) → expression (e.Block bs x) ≡ block (map binding bs) (expression x)
 unfolding expression binding
@@ -74,3 +74,7 @@ match_goal_is k a b = ap goal (sym (G.rolls-Match k a b)) ∙ fold-roll-Goal Bin
 pub await_is : goal G.Await ≡ tree.Await
 unfolding goal
 await_is = ap goal (sym G.rolls-Await) ∙ fold-roll-Goal BindingView Exp tree.Goal binding_step expression_step goal_step E.Await
+
+pub count_is : (es : List Expression) → count (exps (map expression es)) ≡ length es
+count_is [] = refl
+count_is (x ∷ es) = let r = count_is es in omega (arith, r)

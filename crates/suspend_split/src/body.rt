@@ -2,7 +2,7 @@
 ghost use Rattle.std.specs.Prelude.{◌≡◌, IfOk, map};
 ghost use Rattle.core_ir.specs.CodeView.{Names, code_body, code_of};
 ghost use Rattle.core_ir.specs.View.{core_body};
-ghost use Rattle.core_laws.specs.Split.{above_all, code_or_stop, split_body as body_split};
+ghost use Rattle.core_laws.specs.Split.{code_or_stop, split_body as body_split};
 ghost use Rattle.suspend_split.specs.Drafts.{segment_code};
 ghost use Rattle.suspend_split.specs.Makes.{size_of};
 
@@ -10,7 +10,7 @@ use crate::around::Surroundings;
 use crate::draft::{Draft, Segments, State};
 use crate::expression::split_expression;
 use crate::operands::{after, operand_of, place_of};
-use crate::room::room_of;
+use crate::width::expression_width;
 use core_ir::{Code, CodeBody, CoreBody, Exit, Outermost, Scopes};
 use mo_num::{Memory, Sequence};
 use mo_syntax::Items;
@@ -42,17 +42,6 @@ fn code_or_nothing(alloc: Global, segment: Option<Code>) -> Code
     }
 }
 
-// The least number that is above each slot of the segments.
-fn room_of_all(sizes: &[u32], segments: &[Code]) -> usize
-    ensures { (names : Names) → result ≡ above_all (size_of sizes.now) (map (λ c. code_of c names) segments.now) }
-{
-    let mut room = 0;
-    for segment in segments {
-        room = room.max(room_of(sizes, segment));
-    }
-    room
-}
-
 /// The body in a group of so many functions, which sees so many values.
 pub(crate) fn split_body(
     alloc: Global,
@@ -70,6 +59,8 @@ pub(crate) fn split_body(
         sees,
     };
     let expression = &body.expression;
+    let width = expression_width(sizes, expression)?;
+    let slots = after(after(parameters, width as usize)?, 1)?;
     let mut state = State {
         draft: Draft::new(alloc, Exit::Stop),
         segments: Segments::new(alloc),
@@ -92,10 +83,6 @@ pub(crate) fn split_body(
     } = state;
     segments.fill(first, draft.finish(alloc)?);
     let segments = filled(alloc, segments.into_vec())?;
-    let room = (parameters as usize).max(room_of_all(sizes, segments.as_slice()));
-    let Ok(slots) = u32::try_from(room) else {
-        return Err(Memory);
-    };
     Ok(CodeBody {
         parameters,
         slots,

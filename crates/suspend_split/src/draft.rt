@@ -200,13 +200,15 @@ impl State {
         self.segments.add(Some(code))
     }
 
-    // A construct begins: whole, with the code behind it, or cut, so that the code behind it is a segment. It says how the parts of
-    // the construct end.
+    // A construct begins: whole, with the code behind it, or cut, so that the code behind it is a segment and nothing behind it is
+    // reached. It says how the parts of the construct end.
     pub(crate) fn begin(&mut self, alloc: Global, cut: bool) -> Result<Option<u32>, Memory>
         ensures { IfOk result (λ segment. Begins cut self.old self.new (next_exit segment)) }
     {
         if cut {
-            return Ok(Some(self.cut(alloc)?));
+            let segment = self.cut(alloc)?;
+            self.draft = Draft::new(alloc, Exit::Leave(segment));
+            return Ok(Some(segment));
         }
         self.around.enter(Around::Other)?;
         Ok(None)

@@ -9,6 +9,6 @@ mod draft;
 mod expression;
 mod operands;
 mod program;
-mod room;
+mod width;
 
 pub use program::split;

@@ -4,7 +4,7 @@ ghost use Rattle.core_ir.specs.ProgramView.{core, split_core};
 ghost use Rattle.core_laws.specs.Split.{split_group as group_split, split_method as method_split, split_program};
 ghost use Rattle.suspend_split.specs.Makes.{size_of};
 ghost use Rattle.suspend_split.specs.Parts.{SplitBy, code_group, code_method, core_group, core_method, sizes_of};
-ghost use Rattle.suspend_split.specs.Runs.{DoesWithinTwice};
+ghost use Rattle.suspend_split.specs.Runs.{DoesWithinTwice, KeepsFormed};
 
 use crate::body::split_body;
 use core_ir::{CodeBody, Core, CoreBody, Group, Method, Program, SplitCore};
@@ -105,10 +105,12 @@ fn split_by(alloc: Global, sizes: &[u32], program: &Program<CoreBody>) -> Result
 }
 
 /// The same program as structured code over slots, in segments that go on behind an await. Where its bodies nest no more than they
-/// have nodes, it does what the program does, at no more than twice the weight and no greater depth.
+/// have nodes, it does what the program does, at no more than twice the weight and no greater depth. Of a formed program it is a
+/// formed one, which does so.
 pub fn split(alloc: Global, program: &Core) -> Result<SplitCore, Memory>
     ensures split { IfOk result (λ made. split_core made ≡ split_program (core program.now)) }
     ensures same { IfOk result (λ made. DoesWithinTwice (core program.now) (split_core made)) }
+    ensures formed { IfOk result (λ made. KeepsFormed (core program.now) (split_core made)) }
 {
     let sizes = group_sizes(alloc, program.program.groups.as_slice())?;
     Ok(split_by(alloc, &sizes, &program.program)?)
