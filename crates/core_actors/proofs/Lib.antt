@@ -1,0 +1,5 @@
+pub mod KeptCalls
+pub mod KeptNames
+pub mod KeptRuns
+pub mod KeptLaws
+pub mod QuietRuns

@@ -1,0 +1,4 @@
+pub mod Unbroken
+pub mod KeptActors
+pub mod Laws
+pub mod QuietActor
