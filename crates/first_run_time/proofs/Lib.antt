@@ -1,0 +1,12 @@
+pub mod Formed
+pub mod Parts
+pub mod Hosts
+pub mod Queries
+pub mod Digits
+pub mod Copies
+pub mod Same
+pub mod Order
+pub mod Short
+pub mod Executed
+pub mod Begun
+pub mod Replied
