@@ -24,6 +24,8 @@ pub data Around : Type 0 where
   Awaited : Around
   -- a `let` whose pattern is one name
   Named : Around
+  -- a label
+  Labelled : Around
   Other : Around
 
 -- whether the body is async
@@ -42,12 +44,14 @@ calls Local = false
 abbrev pub takes_call : Around → Bool
 takes_call Awaited = true
 takes_call Named = true
+takes_call Labelled = false
 takes_call Other = false
 
 -- whether the name of such a call stands there
 abbrev pub takes_name : Around → Bool
 takes_name Awaited = true
 takes_name Named = false
+takes_name Labelled = false
 takes_name Other = false
 
 abbrev pub body_of : Bool → Body

@@ -7,7 +7,7 @@ use Rattle.mo_scopes.specs.Scopes.{named, library_of, members_of}
 use Rattle.typing_rules.specs.AbstractSyntax.{Bytes}
 use Rattle.typing_rules.specs.Terms.{Term}
 use Rattle.typing_rules.specs.TypeScopes.{TypeScope}
-use Rattle.typing_rules.specs.AsyncPlaces.{Body, Around, Other}
+use Rattle.typing_rules.specs.AsyncPlaces.{Body, Around, Labelled, Other}
 
 -- what a name stands for: its type, whether it may be assigned to, and the type parameters of a function that has such
 pub record Bound : Type 0 where
@@ -28,7 +28,7 @@ generic xs u = record { type = u; mutable = false; generics = xs }
 abbrev pub Scope : Type 0
 Scope = List (Bytes × Bound)
 
--- a label: the type of what leaves it, and whether a loop stands directly under it
+-- a label: the type of what leaves it, and whether this is in the body of a loop that stands directly under it
 pub record Label : Type 0 where
   pub type : Term
   pub loop : Bool
@@ -52,6 +52,15 @@ with_values names e = record e { values = names ++ e.values }
 
 abbrev pub with_label : Bytes → Label → Context → Context
 with_label x l e = record e { labels = (x, l) ∷ e.labels }
+
+abbrev pub first_loops : List (Bytes × Label) → List (Bytes × Label)
+first_loops [] = []
+first_loops (q ∷ qs) = (q.0, record { type = q.1.type; loop = true }) ∷ qs
+
+-- in the body of a loop with this directly around it
+abbrev pub in_loop : Around → Context → Context
+in_loop Labelled e = record e { labels = first_loops e.labels }
+in_loop _ e = e
 
 abbrev pub with_types : TypeScope → Context → Context
 with_types s e = record e { types = s }

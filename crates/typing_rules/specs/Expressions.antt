@@ -21,8 +21,8 @@ use Rattle.typing_rules.specs.Judgements.{Question, Judgement, Gives, Fails, Mee
 use Rattle.typing_rules.specs.TypeScopes.{term_or}
 use Rattle.typing_rules.specs.Types.{Reads, ReadsOr}
 use Rattle.typing_rules.specs.DeclaredTypes.{within, with_list, class_type, member_fields}
-use Rattle.typing_rules.specs.Contexts.{Context, constant, variable, value_named, with_values, with_label, with_types, in_option, in_body, directly}
-use Rattle.typing_rules.specs.AsyncPlaces.{Around, Awaited, Other, Local, waits, calls, takes_call, takes_name, body_of, around_of, FuturePlaced}
+use Rattle.typing_rules.specs.Contexts.{Context, constant, variable, value_named, with_values, with_label, in_loop, with_types, in_option, in_body, directly}
+use Rattle.typing_rules.specs.AsyncPlaces.{Around, Awaited, Labelled, Other, Local, waits, calls, takes_call, takes_name, body_of, around_of, FuturePlaced}
 use Rattle.typing_rules.specs.Members.{member_bound, member_type, object_field}
 use Rattle.typing_rules.specs.TypedTrees.{Note, note, Typed, typed, type_of, types_of, case_types, field_types, declared_type, signature, place, annotation, count, count_patterns}
 use Rattle.typing_rules.specs.Ends.{wanted, Has, Leaves, Greatest, Branches}
@@ -39,13 +39,6 @@ use Rattle.typing_rules.specs.Lists.{Made, Entry, Run, no_entry, entry, of_expre
 abbrev pub actor_text : Expression ℕ → Option Bytes
 actor_text (p.exp at (p.ActorReference x)) = Some x
 actor_text _ = None
-
-abbrev pub is_loop : Expression ℕ → Bool
-is_loop (p.exp at (p.While c a)) = true
-is_loop (p.exp at (p.Loop a)) = true
-is_loop (p.exp at (p.LoopWhile a c)) = true
-is_loop (p.exp at (p.For q a b)) = true
-is_loop _ = false
 
 abbrev pub has_field : Bytes → ObjectFields ℕ → Bool
 has_field l p.NoFields = false
@@ -171,16 +164,16 @@ module _ (defs : Definitions) where
         Tests condition.AsyncPlace at (waits e.body) (Part (Judge e a w) (λ x. Meets t.Error (Part (Stands defs e.types q t.Error) (λ r.
         Part (Judge (with_values r.0 e) b w) (λ y. Branches at w (type_of x ∷ type_of y ∷ []) (p.Try x r.1 y))))))
     -- `while`, `for`, `loop N while C`, `loop N`: N fits (). They give (); `loop N` gives None. `for` takes an object with `next : () -> ?T`.
-    Rule o e at (p.While c a) w = Part (Judge e c (Some t.Boolean)) (λ d. Part (Judge e a (Some unit)) (λ b. Has at w unit (p.While d b)))
-    Rule o e at (p.Loop a) w = Part (Judge e a (Some unit)) (λ b. Has at w t.Bottom (p.Loop b))
-    Rule o e at (p.LoopWhile a c) w = Part (Judge e a (Some unit)) (λ b. Part (Judge e c (Some t.Boolean)) (λ d. Has at w unit (p.LoopWhile b d)))
+    Rule o e at (p.While c a) w = Part (Judge e c (Some t.Boolean)) (λ d. Part (Judge (in_loop o e) a (Some unit)) (λ b. Has at w unit (p.While d b)))
+    Rule o e at (p.Loop a) w = Part (Judge (in_loop o e) a (Some unit)) (λ b. Has at w t.Bottom (p.Loop b))
+    Rule o e at (p.LoopWhile a c) w = Part (Judge (in_loop o e) a (Some unit)) (λ b. Part (Judge e c (Some t.Boolean)) (λ d. Has at w unit (p.LoopWhile b d)))
     Rule o e at (p.For q a b) w =
         Part (Judge e a None) (λ x. Given condition.NotIterable at (items_of defs (members_head defs (type_of x))) (λ u. Meets u (Part (Stands defs e.types q u) (λ r.
-        Part (Judge (with_values r.0 e) b (Some unit)) (λ y. Has at w unit (p.For r.1 x y))))))
+        Part (Judge (in_loop o (with_values r.0 e)) b (Some unit)) (λ y. Has at w unit (p.For r.1 x y))))))
     -- `label l : T N`: N fits T, by default (), gives T. `break`, `continue`, `return` and `throw` give None; values fit the label's or result type, `throw`
-    -- Error. `continue` names a loop directly under its label.
+    -- Error. `continue` stands in the body of a loop directly under its label.
     Rule o e at (p.Label x u a) w =
-        Part (ReadsOr defs e.types u unit) (λ v. Part (Judge (with_label x (record { type = v; loop = is_loop a }) e) a (Some v)) (λ b. Has at w v (p.Label x u b)))
+        Part (ReadsOr defs e.types u unit) (λ v. Part (Judge (directly Labelled (with_label x (record { type = v; loop = false }) e)) a (Some v)) (λ b. Has at w v (p.Label x u b)))
     Rule o e at (p.Break x) w = Given condition.BadLabel at (named e.labels x) (λ l. Leaves at w l.type (p.Break x))
     Rule o e at (p.BreakWith x a) w = Given condition.BadLabel at (named e.labels x) (λ l. Part (Judge e a (Some l.type)) (λ b. Has at w t.Bottom (p.BreakWith x b)))
     Rule o e at (p.Continue x) w = Given condition.BadLabel at (named e.labels x) (λ l. Tests condition.BadLabel at l.loop (Has at w t.Bottom (p.Continue x)))

@@ -272,4 +272,18 @@ place_second =
     -- actor { return }
     refused condition.BadLabel 2
     (actor (p.Then false 2 (p.Evaluate (p.exp 2 p.Return)) p.End)) ∷
+    -- actor { label l while (continue l) { } }
+    refused condition.BadLabel 6
+    (actor
+    (p.Then false 2
+    (p.Evaluate
+    (p.exp 2 (p.Label (codes "l") None (p.exp 4 (p.While (p.exp 6 (p.Continue (codes "l"))) (p.exp 9 (p.Block p.End))))))) p.End)) ∷
+    -- actor { label l for (x in continue l) { } }
+    refused condition.BadLabel 8
+    (actor
+    (p.Then false 2
+    (p.Evaluate
+    (p.exp 2
+    (p.Label (codes "l") None
+    (p.exp 4 (p.For (p.pattern 6 (p.Variable (codes "x"))) (p.exp 8 (p.Continue (codes "l"))) (p.exp 11 (p.Block p.End))))))) p.End)) ∷
     []

@@ -194,4 +194,20 @@ typed_control =
     (p.Then false 8 (p.Evaluate (p.exp 8 (p.Ignore (p.exp 9 (p.Constant (p.Number 1))))))
     (p.Then false 11 (p.Evaluate (p.exp 11 (p.Debug (p.exp 12 (p.Block p.End)))))
     (p.Then false 15 (p.Evaluate (p.exp 15 (p.Assert (p.exp 16 (p.Constant p.True))))) p.End)))))) p.End)) ∷
+    -- actor { label a while true { label l while (continue a) { } } }
+    accepted
+    (actor
+    (p.Then false 2
+    (p.Evaluate
+    (p.exp 2
+    (p.Label (codes "a") None
+    (p.exp 4
+    (p.While (p.exp 5 (p.Constant p.True))
+    (p.exp 6
+    (p.Block
+    (p.Then false 7
+    (p.Evaluate
+    (p.exp 7
+    (p.Label (codes "l") None (p.exp 9 (p.While (p.exp 11 (p.Continue (codes "a"))) (p.exp 14 (p.Block p.End)))))))
+    p.End)))))))) p.End)) ∷
     []
