@@ -1,0 +1,4 @@
+pub mod Yielding
+pub mod HeadForms
+pub mod Graph
+pub mod Patterns

@@ -1,0 +1,5 @@
+pub mod Yields
+pub mod GraphOf
+pub mod Names
+pub mod Written
+pub mod Laws
