@@ -5,4 +5,4 @@ mod forms;
 mod names;
 mod writing;
 
-pub use writing::term;
+pub use writing::{awaited, term};

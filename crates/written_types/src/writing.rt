@@ -59,7 +59,7 @@ fn sort_of(sharing: Sharing) -> Sort
 }
 
 /// The type `T` of `async T`.
-fn awaited(of: &TypeNode) -> Option<&TypeNode>
+pub fn awaited(of: &TypeNode) -> Option<&TypeNode>
     ensures { option_map (λ n. type_node n.now) result ≡ awaited (type_node of.now) }
 {
     match of.form.get() {

@@ -1,0 +1,5 @@
+pub mod Judging
+pub mod Turns
+pub mod Sending
+pub mod Walking
+pub mod Readings
