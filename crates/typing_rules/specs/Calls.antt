@@ -17,7 +17,7 @@ use Rattle.typing_rules.specs.Judgements.{Question, Judgement, Gives, Part, Test
 use Rattle.typing_rules.specs.TypeScopes.{TypeScope}
 use Rattle.typing_rules.specs.Types.{ReadsEach}
 use Rattle.typing_rules.specs.Contexts.{Context, Bound, value_named, module_member}
-use Rattle.typing_rules.specs.Members.{member_bound, object_field}
+use Rattle.typing_rules.specs.Members.{member_bound, constant_field}
 use Rattle.typing_rules.specs.TypedTrees.{Note}
 
 -- the module's member that `a.x` is
@@ -76,6 +76,6 @@ module _ (defs : Definitions) where
   gives_item (Some ([], r)) = item_of (head defs r)
   gives_item (Some (u ∷ us, r)) = None
 
-  -- what `for` goes over, where a value of this head has a `next`
+  -- what `for` goes over, where a value of this head has a `next` that is no `var` field
   abbrev pub items_of : Node Term → Option Term
-  items_of y = gives_item (option_and_then (λ f. local_of (head defs f.part)) (object_field (codes "next") y))
+  items_of y = gives_item (option_and_then (λ f. local_of (head defs f.part)) (constant_field (codes "next") y))

@@ -1,5 +1,5 @@
 -- The types of built-in members (Motoko base library, modules Debug, Error, Nat, Int, Array and Principal, and the methods of arrays and texts).
-use Rattle.std.specs.Prelude.{List, [], ◌∷◌, codes, Option, None, option_map}
+use Rattle.std.specs.Prelude.{List, [], ◌∷◌, codes, cond, Option, Some, None, option_map}
 use Rattle.std.specs.Option.{option_and_then}
 use Rattle.mo_num.specs.declared.kind.Kind.TheVariants as kind
 use Rattle.mo_scopes.specs.declared.library.Member.{Member}
@@ -75,3 +75,10 @@ member_type x _ = None
 -- a field, which may be a `var` field
 abbrev pub object_field : Bytes → Node Term → Option (Field Term)
 object_field x y = option_and_then (λ fields. find x fields) (object_of y)
+
+abbrev pub unless_mutable : Field Term → Option (Field Term)
+unless_mutable f = cond f.mutable None (Some f)
+
+-- a field that is no `var` field
+abbrev pub constant_field : Bytes → Node Term → Option (Field Term)
+constant_field x y = option_and_then unless_mutable (object_field x y)

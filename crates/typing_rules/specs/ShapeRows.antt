@@ -1,5 +1,5 @@
 -- Programs in which a value has not the form that a rule asks.
-use Rattle.std.specs.Prelude.{false, List, [], ◌∷◌, None, codes}
+use Rattle.std.specs.Prelude.{true, false, List, [], ◌∷◌, Some, None, codes}
 use Rattle.mo_syntax.specs.declared.operators.BinaryOperator.TheVariants as op
 use Rattle.mo_syntax.specs.declared.types.Sharing.TheVariants as sharing
 use Rattle.typing_rules.specs.declared.condition.Condition.TheVariants as condition
@@ -159,6 +159,19 @@ shape_second =
     (p.Then false 2
     (p.Evaluate (p.exp 2 (p.For (p.pattern 4 (p.Variable (codes "x"))) (p.exp 6 (p.Constant (p.Number 5))) (p.exp 8 (p.Block p.End)))))
     p.End)) ∷
+    -- actor { func f() : ?Nat { null }; for (x in { var next = f }) { } }
+    refused condition.NotIterable 13
+    (actor
+    (p.Then false 2
+    (p.Func (token 3 (codes "f"))
+    (record { generics = []; parameters = p.Nil; result = Some (p.node 7 (p.Optional (p.node 8 (p.Use (codes "Nat") p.Nil)))) })
+    (p.exp 9 (p.Block (p.Then false 10 (p.Evaluate (p.exp 10 (p.Constant p.Null))) p.End))))
+    (p.Then false 13
+    (p.Evaluate
+    (p.exp 13
+    (p.For (p.pattern 15 (p.Variable (codes "x")))
+    (p.exp 17 (p.Object (p.Field true (token 19 (codes "next")) None (p.exp 21 (p.Name (codes "f"))) p.NoFields))) (p.exp 24 (p.Block p.End)))))
+    p.End))) ∷
     -- actor { let x : Nat = -1 }
     refused condition.LiteralRange 7
     (actor
