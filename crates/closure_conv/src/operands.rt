@@ -99,7 +99,7 @@ pub(crate) fn convert_all(
 ) -> Result<Sequence<Operand>, Memory>
     ensures { IfOk result (λ made. made ≡ map (seen_as used.now) operands.now) }
 {
-    let mut made = Sequence::new(alloc);
+    let mut made = Sequence::from_vec(Vec::with_capacity(alloc, operands.len())?);
     for operand in operands {
         made.push(convert_operand(used, operand)?)?;
     }
@@ -117,7 +117,7 @@ pub(crate) fn convert_picked(
 ) -> Result<Sequence<Operand>, Memory>
     ensures { IfOk result (λ made. made ≡ map (seen_as used.now) (picked (seen_names (scope_names scopes.now outermost.now) seen.now) needs.now)) }
 {
-    let mut made = Sequence::new(alloc);
+    let mut made = Sequence::from_vec(Vec::with_capacity(alloc, needs.len())?);
     for place in needs {
         let operand = seen_at(alloc, scopes, outermost, seen, *place)?;
         made.push(convert_operand(used, &operand)?)?;

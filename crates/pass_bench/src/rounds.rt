@@ -21,7 +21,7 @@ fn lacking() -> io::Error {
 
 /// Blocks of 20,000 and 40,000 statements.
 pub fn straight(rt: &HostRuntime, alloc: Global) -> io::Result<()> {
-    for statements in [20_000, 40_000] {
+    for statements in [10_000, 20_000, 40_000, 80_000, 160_000] {
         let Ok(core) = programs::straight(alloc, statements) else {
             return Err(lacking());
         };

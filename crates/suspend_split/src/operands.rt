@@ -70,7 +70,7 @@ pub(crate) fn operands_of(
 ) -> Result<Sequence<Operand>, Memory>
     ensures { IfOk result (λ operands. operands ≡ operand_forms (scope_names scopes.now outermost.now scope) (exps (map expression_view arguments.now)) free) }
 {
-    let mut operands = Sequence::new(alloc);
+    let mut operands = Sequence::from_vec(Vec::with_capacity(alloc, arguments.len())?);
     let mut next = free;
     for argument in arguments {
         operands.push(operand_of(alloc, outermost, scopes, argument, next, scope)?)?;
@@ -116,7 +116,7 @@ pub(crate) fn others(operands: &[Operand]) -> &[Operand]
 pub(crate) fn copied(alloc: Global, operands: &[Operand]) -> Result<Sequence<Operand>, Memory>
     ensures { IfOk result (λ made. made ≡ operands.now) }
 {
-    let mut made = Sequence::new(alloc);
+    let mut made = Sequence::from_vec(Vec::with_capacity(alloc, operands.len())?);
     for operand in operands {
         made.push(operand.copy()?)?;
     }
