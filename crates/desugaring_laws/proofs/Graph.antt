@@ -5,6 +5,7 @@ use Rattle.mo_types.specs.declared.node.Node.{Node}
 use Rattle.mo_types.specs.declared.node.Node.TheVariants as node
 use Rattle.mo_types.specs.declared.node.TypeId.{TypeId}
 use Rattle.mo_types.specs.Graph.{Slot, node_of, node_of_slot, node_or_bottom, node_at, head_at}
+use Rattle.mo_types.specs.Heads.{async_of}
 use Rattle.mo_types.specs.Sub.{AtSome, IsSomething, Each, Sub, IsSubtype}
 use Rattle.mo_subtype.specs.Renamed.{on_field, on_node}
 use Rattle.mo_subtype.proofs.Natural.{sub_back}
@@ -27,6 +28,7 @@ use Rattle.met_types.proofs.Extending.{lt_or}
 use Rattle.met_types.proofs.Indexing.{in_range, there}
 use Rattle.met_types.proofs.NodeParts.{parts_seen}
 use Rattle.desugaring_laws.specs.GraphOf.{IsGraphOf}
+use Rattle.desugaring_laws.specs.Known.{IsKnown}
 
 -- ---- heads
 
@@ -199,6 +201,53 @@ module _ (defs : Definitions) (slots : List Slot) (terms : List Term) (number : 
       among_each (λ w. Among w terms) (map (term_of terms) (types_in n.0)) v
       (each_mapped (term_of terms) (λ w. Among w terms) (types_in n.0) (each_of (λ p. p.index < length terms) (λ p. Among (term_of terms p) terms) (types_in n.0) n.2 term_among))
       (subst (λ us. Among v us) seen p)
+
+  async_seen : {A B : Type 0} (f : A → B) (n : Node A) → async_of (on_node f n) ≡ None → async_of n ≡ None
+  async_seen f (node.Number k) h = refl
+  async_seen f node.Bool h = refl
+  async_seen f node.Char h = refl
+  async_seen f node.Text h = refl
+  async_seen f node.Blob h = refl
+  async_seen f node.Principal h = refl
+  async_seen f node.Error h = refl
+  async_seen f node.Null h = refl
+  async_seen f node.Any h = refl
+  async_seen f node.Bottom h = refl
+  async_seen f (node.Opt a) h = refl
+  async_seen f (node.Array a) h = refl
+  async_seen f (node.MutArray a) h = refl
+  async_seen f (node.Tuple ts) h = refl
+  async_seen f (node.Object fs) h = refl
+  async_seen f (node.Actor fs) h = refl
+  async_seen f (node.Variant fs) h = refl
+  async_seen f (node.Func s ps rs) h = refl
+  async_seen f (node.Async a) h = cc
+  async_seen f (node.Variable v b) h = refl
+
+  among_mapped : {A B : Type 0} (f : A → B) (xs : List A) (x : A) → Among x xs → Among (f x) (map f xs)
+  among_mapped f [] x m = absurd m
+  among_mapped f (y ∷ xs) x (inl e) = inl (ap f e)
+  among_mapped f (y ∷ xs) x (inr m) = inr (among_mapped f xs x m)
+
+  -- a future is no part of a type
+  pub part_no_future : (u v : Term) → Among u terms → Among v (types_in (head defs u)) → async_of (head defs v) ≡ None
+  part_no_future u v m p =
+      async_seen number (head defs v)
+      (ap async_of (sym (head_number v (parts_there u v m p)))
+      ∙ among_each (λ t. async_of (head_at slots t) ≡ None) (types_in (head_at slots (number u))) (number v) (g.lawful.nodes (number u)).1
+      (subst (λ ts. Among (number v) ts) (sym (ap types_in (head_number u m) ∙ parts_seen number (head defs u))) (among_mapped number (types_in (head defs u)) v p)))
+
+  -- what stands in a known type is known
+  pub part_known : (vs : List ℕ) (u v : Term) → IsKnown defs terms vs u → (y : Node Term) → head defs u ≡ y → Among v (types_in y) → IsKnown defs terms vs v
+  part_known vs u v k y e m =
+      let n : Among v (types_in (head defs u)) = subst (λ z. Among v (types_in z)) (sym e) m in
+      record {
+        there = parts_there u v k.there n;
+        fine = record { scoped = part_mentions (head defs) vs u v k.fine.scoped n; no_future = part_no_future u v k.there n };
+      }
+
+  pub head_there : (u : Term) → Among u terms → (y : Node Term) → head defs u ≡ y → head_at slots (number u) ≡ on_node number y
+  head_there u m y e = head_number u m ∙ ap (on_node number) e
 
   heads : (i : TypeId) → head defs (term_of terms i) ≡ on_node (term_of terms) (head_at slots i)
   heads i = by (lt_or i.index (length terms)) where

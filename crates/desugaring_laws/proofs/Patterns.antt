@@ -11,7 +11,7 @@ use Rattle.mo_types.specs.declared.node.Node.{Node}
 use Rattle.mo_types.specs.declared.node.Node.TheVariants as node
 use Rattle.mo_types.specs.declared.node.TypeId.{TypeId}
 use Rattle.mo_types.specs.Graph.{Slot, head_at}
-use Rattle.mo_types.specs.Heads.{number_of, is_bool, is_char, is_text, is_blob, is_null, opt_of, tuple_of, object_of, variant_of}
+use Rattle.mo_types.specs.Heads.{number_of, is_bool, is_char, is_text, is_blob, is_null, opt_of, tuple_of, object_of, variant_of, async_of}
 use Rattle.mo_types.specs.Sub.{Each, Sub, NodeBelow, find}
 use Rattle.mo_types.specs.Values.{IsPartOf}
 use Rattle.mo_subtype.specs.Renamed.{on_field, on_node}
@@ -29,7 +29,7 @@ use Rattle.typed_tree.specs.PatternTypes as typed
 use Rattle.typed_tree.specs.TypingLaws.{form_standing}
 use Rattle.typed_tree.specs.Wants.{Want, Of, Below}
 use Rattle.typed_tree.proofs.Rules.{patterns, pattern_forms, fields}
-use Rattle.typing_rules.specs.AbstractSyntax.{Literal, Pattern, Patterns, PatternFields, TypeNode}
+use Rattle.typing_rules.specs.AbstractSyntax.{Literal, Pattern, Patterns, PatternFields}
 use Rattle.typing_rules.specs.AbstractSyntax as p
 use Rattle.typing_rules.specs.Contexts.{Scope, constant}
 use Rattle.typing_rules.specs.Definitions.{Definitions}
@@ -37,18 +37,19 @@ use Rattle.typing_rules.specs.Heads.{head}
 use Rattle.typing_rules.specs.Patterns.{is_empty, LiteralStands, Stands, EachStands, FieldsStand}
 use Rattle.typing_rules.specs.Terms.{Term, unit}
 use Rattle.typing_rules.specs.TypedTrees.{Note}
-use Rattle.typing_rules.specs.Types.{Proper, Reads}
-use Rattle.typing_rules.specs.TypeScopes.{TypeScope, term}
+use Rattle.typing_rules.specs.Types.{Reads}
+use Rattle.typing_rules.specs.TypeScopes.{TypeScope}
 use Rattle.desugaring.specs.Nodes.{literal_at}
 use Rattle.desugaring.specs.Patterns.{pattern, patterns as each_pattern, fields_of, stands as at_type}
 use Rattle.desugaring_laws.specs.GraphOf.{IsGraphOf}
-use Rattle.desugaring_laws.specs.Laws.{IsKnown, wants, PatternTyped, PatternsAreTyped}
+use Rattle.desugaring_laws.specs.Known.{IsFine, IsKnown}
+use Rattle.desugaring_laws.specs.Laws.{wants, AreWrittenFine, PatternTyped, PatternsAreTyped}
 use Rattle.desugaring_laws.specs.Names.{Names, bound_names, bound_in_each, bound_in_fields, entered}
 use Rattle.desugaring_laws.specs.Written.{IsWritten, PatternIsWritten, EachIsWritten, FieldsAreWritten}
 use Rattle.desugaring_laws.specs.Yields.{Yields}
-use Rattle.desugaring_laws.proofs.Graph.{each_among, head_number, parts_there, part_mentions, reflexive, transitive, below_number, in_scope}
+use Rattle.desugaring_laws.proofs.Graph.{each_among, head_number, part_known as known_part, head_there as there_head, reflexive, transitive, below_number, in_scope}
 use Rattle.desugaring_laws.proofs.HeadForms.{is_number, is_option, is_tuple, is_object, is_variant, has_flags, has_characters, has_texts, has_blobs}
-use Rattle.desugaring_laws.proofs.Yielding.{anything, given, tests, if_so, part as after}
+use Rattle.desugaring_laws.proofs.Yielding.{given, tests, if_so, part as after}
 
 -- ---- names
 
@@ -60,7 +61,7 @@ append_three : {A : Type 0} (xs ys zs : List A) → (xs ++ ys) ++ zs ≡ xs ++ (
 append_three [] ys zs = refl
 append_three (x ∷ xs) ys zs = ap (λ l. x ∷ l) (append_three xs ys zs)
 
-entered_on : (xs : Names) (s : Scope) → entered xs s ≡ entered xs [] ++ s
+pub entered_on : (xs : Names) (s : Scope) → entered xs s ≡ entered xs [] ++ s
 entered_on [] s = refl
 entered_on (x ∷ xs) s =
     entered_on xs ((x.0, constant x.1) ∷ s)
@@ -89,7 +90,7 @@ each_append : {A : Type 0} (P : A → Type 0) (xs ys : List A) → Each P xs →
 each_append P [] ys h k = k
 each_append P (x ∷ xs) ys h k = (h.0, each_append P xs ys h.1 k)
 
-map_append : {A B : Type 0} (f : A → B) (xs ys : List A) → map f (xs ++ ys) ≡ map f xs ++ map f ys
+pub map_append : {A B : Type 0} (f : A → B) (xs ys : List A) → map f (xs ++ ys) ≡ map f xs ++ map f ys
 map_append f [] ys = refl
 map_append f (x ∷ xs) ys = ap (λ l. f x ∷ l) (map_append f xs ys)
 
@@ -112,7 +113,7 @@ found_among true x fs l g h e = let k : x ≡ g = cc in inl (ap (λ f. f.part) k
 found_among false x fs l g h e = inr (h e)
 
 -- the type of a field is one of those in the type
-find_among : {A : Type 0} (l : List ℕ) (fs : List (Field A)) (g : Field A) → find l fs ≡ Some g → Among g.part (map (λ f. f.part) fs)
+pub find_among : {A : Type 0} (l : List ℕ) (fs : List (Field A)) (g : Field A) → find l fs ≡ Some g → Among g.part (map (λ f. f.part) fs)
 find_among l [] g h = cc
 find_among l (x ∷ fs) g h = found_among (pointwise nat_eq x.label l) x fs l g (find_among l fs g) h
 
@@ -138,6 +139,9 @@ unit_mentions : (defs : Definitions) (vs : List ℕ) (n : ℕ) → Mentions (hea
 unfolding Mentions
 unit_mentions defs vs zero = tt
 unit_mentions defs vs (suc n) = subst (λ x. ParameterAmong vs x × Each (Mentions (head defs) vs n) (types_in x)) (sym (unit_head defs)) (tt, tt)
+
+pub unit_fine : (defs : Definitions) (vs : List ℕ) → IsFine defs vs unit
+unit_fine defs vs = record { scoped = record { by = unit_mentions defs vs }; no_future = ap async_of (unit_head defs) }
 
 module _ (defs : Definitions) (slots : List Slot) (terms : List Term) (number : Term → TypeId) (g : IsGraphOf defs slots terms number) (units : Among unit terms) where
   -- ---- literals
@@ -210,33 +214,26 @@ module _ (defs : Definitions) (slots : List Slot) (terms : List Term) (number : 
       (λ e. (tt, leaf_there (number u) node.Bool (part.Flag false) (head_number defs slots terms number g u m ∙ ap (on_node number) (has_flags (head defs u) e)) tt))
   literal_stands at false p.Null u m w = tests defs terms _ _ (is_null (head defs u) || is_some (opt_of (head defs u))) _ _ (λ e. (tt, null_there u m e))
 
-  module _ (vs : List ℕ) (s : TypeScope) (written : (a : TypeNode) → MentionsOnly (head defs) vs (term s a)) where
+  module _ (vs : List ℕ) (s : TypeScope) (written : AreWrittenFine defs terms vs s) where
     abbrev Known : Term → Type 0
-    Known = IsKnown defs slots terms number vs
+    Known = IsKnown defs terms vs
 
     abbrev Is : Term → Scope × Pattern Note → Type 0
     Is u b = PatternTyped defs slots terms number vs u b.0 b.1
 
     abbrev Wants : Names → List (Want TypeId)
-    Wants = wants defs slots terms number vs
+    Wants = wants number
 
     part_known : (u v : Term) → Known u → (y : Node Term) → head defs u ≡ y → Among v (types_in y) → Known v
-    part_known u v k y e m =
-        let n : Among v (types_in (head defs u)) = subst (λ z. Among v (types_in z)) (sym e) m in
-        record { there = parts_there defs slots terms number g u v k.there n; scoped = part_mentions (head defs) vs u v k.scoped n }
+    part_known = known_part defs slots terms number g vs
 
     head_there : (u : Term) → Known u → (y : Node Term) → head defs u ≡ y → head_at slots (number u) ≡ on_node number y
-    head_there u k y e = head_number defs slots terms number g u k.there ∙ ap (on_node number) e
-
-    reads : (a : TypeNode) → Yields defs terms (Reads defs s a) Known
-    reads a =
-        after defs terms (Proper defs s a) _ (λ x. Unit {0}) _ (anything defs terms (Proper defs s a))
-        (λ x t. (λ m. record { there = m; scoped = written a }))
+    head_there u k = there_head defs slots terms number g u k.there
 
     -- a pattern with a type of its own
     made : (u : Term) → Known u → (f : P.PatternForm-F PatternForm PatternField TypedPattern) (ns : List (Want TypeId)) → form_standing slots vs f (number u) ns → (t : TypeId) → Below (head_at slots) t (number u)
         → typed.Stands slots vs (at_type defs number u f) t ns
-    made u k f ns h t b = (patterns slots vs _ t ns).1 (b, in_scope defs slots terms number g vs u k.there k.scoped, (pattern_forms slots vs f (number u) ns).1 h)
+    made u k f ns h t b = (patterns slots vs _ t ns).1 (b, in_scope defs slots terms number g vs u k.there k.fine.scoped, (pattern_forms slots vs f (number u) ns).1 h)
 
     self : (u : Term) → Below (head_at slots) (number u) (number u)
     self u = reflexive defs slots terms number g (number u)
@@ -248,7 +245,7 @@ module _ (defs : Definitions) (slots : List Slot) (terms : List Term) (number : 
     unit_stands : (u : Term) → Known u → tuple_of (head defs u) ≡ Some [] → typed.Stands slots vs (at_type defs number unit (P.Constant literal.Unit)) (number u) []
     unit_stands u k e =
         let there : head_at slots (number unit) ≡ node.Tuple [] = head_number defs slots terms number g unit units ∙ ap (on_node number) (unit_head defs) in
-        made unit (record { there = units; scoped = record { by = unit_mentions defs vs } }) (P.Constant literal.Unit) [] (there, refl) (number u)
+        made unit (record { there = units; fine = unit_fine defs vs }) (P.Constant literal.Unit) [] (there, refl) (number u)
         (units_below slots (number u) (number unit) (head_there u k (node.Tuple []) (is_tuple (head defs u) [] e)) there)
 
     record Each_ (us : List Term) (scope : Scope) (qs : Patterns Note) : Type 0 where
@@ -264,7 +261,7 @@ module _ (defs : Definitions) (slots : List Slot) (terms : List Term) (number : 
     mutual
       stands_typed : (q : Pattern ℕ) → PatternIsWritten q → (u : Term) → Known u → Yields defs terms (Stands defs s q u) (Is u)
       stands_typed (p.pattern at (p.Annotated q a)) w u k =
-          after defs terms (Reads defs s a) _ Known (Is u) (reads a) (λ v kv. (
+          after defs terms (Reads defs s a) _ Known (Is u) (written a) (λ v kv. (
             λ below.
                 after defs terms (Stands defs s q v) _ (Is v) (Is u) (stands_typed q w v kv) (λ b i. record {
                   stands = λ t h. i.stands t (transitive defs slots terms number g t (number u) (number v) h (below_number defs slots terms number g u v k.there kv.there below));

@@ -1,5 +1,6 @@
 pub mod Yields
 pub mod GraphOf
+pub mod Known
 pub mod Names
 pub mod Written
 pub mod Laws
