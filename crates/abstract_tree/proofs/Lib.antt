@@ -1,2 +1,1 @@
-pub mod TreeMaking
 pub mod TreeViews

@@ -9,11 +9,11 @@ use Rattle.abstract_types.specs.declared.patterns.Signature.{Signature}
 use Rattle.abstract_types.specs.TypeView.{named, type_node, annotation}
 use Rattle.abstract_types.specs.PatternView.{plain_signature}
 use Rattle.abstract_types.specs.PatternView as pattern_view
-use Rattle.abstract_tree.specs.declared.declarations.Declaration.{Declaration}
+use Rattle.abstract_tree.specs.declared.declarations.Declaration.{Declaration, fold_out-Declaration}
 use Rattle.abstract_tree.specs.declared.declarations.DeclarationForm.{fold-roll-DeclarationForm}
 use Rattle.abstract_tree.specs.declared.declarations.DeclarationForm.TheVariants as d
 use Rattle.abstract_tree.specs.declared.declarations.DeclarationForm.TheOpen as F
-use Rattle.abstract_tree.specs.declared.expressions.Expression.{Expression}
+use Rattle.abstract_tree.specs.declared.expressions.Expression.{Expression, fold_out-Expression}
 use Rattle.abstract_tree.specs.declared.expressions.ExpressionForm.{fold-roll-ExpressionForm}
 use Rattle.abstract_tree.specs.declared.expressions.ExpressionForm.TheVariants as e
 use Rattle.abstract_tree.specs.declared.expressions.Case.{Case, roll-Case, fold-roll-Case}
@@ -275,3 +275,13 @@ seen_case q a = fold-roll-Case ℕ (p.Declaration ℕ) (p.Form ℕ) (Declaration
 pub seen_field : (mutable : Bool) (x : PlacedName) (t : Option TypeNode) (a : Expression ℕ) → plain_field (roll-ObjectField ℕ (record { mutable = mutable; name = x; annotation = t; value = a })) ≡ (λ rest. p.Field mutable (named x) (annotation t) (plain a) rest)
 unfolding expression expression_form declaration declaration_form case object_field
 seen_field mutable x t a = fold-roll-ObjectField ℕ (p.Declaration ℕ) (p.Form ℕ) (DeclarationView ℕ) (CaseView ℕ) (p.Expression ℕ) (FieldView ℕ) (declaration_form_step same) (form_step same) (declaration_step same) (case_step same) (expression_step same) (field_step same) (record { mutable = mutable; name = x; annotation = t; value = a })
+
+-- ---- what a value is seen as, by its parts
+
+pub expression_is : (a : Expression ℕ) → plain a ≡ p.exp a.note (plain_form a.form)
+unfolding expression expression_form declaration declaration_form case object_field
+expression_is a = fold_out-Expression ℕ (p.Declaration ℕ) (p.Form ℕ) (DeclarationView ℕ) (CaseView ℕ) (p.Expression ℕ) (FieldView ℕ) (declaration_form_step same) (form_step same) (declaration_step same) (case_step same) (expression_step same) (field_step same) a
+
+pub declaration_is : (x : Declaration ℕ) → plain_declaration x ≡ (λ rest. p.Then x.public x.note (plain_declaration_form x.form) rest)
+unfolding expression expression_form declaration declaration_form case object_field
+declaration_is x = fold_out-Declaration ℕ (p.Declaration ℕ) (p.Form ℕ) (DeclarationView ℕ) (CaseView ℕ) (p.Expression ℕ) (FieldView ℕ) (declaration_form_step same) (form_step same) (declaration_step same) (case_step same) (expression_step same) (field_step same) x

@@ -1,3 +1,1 @@
-pub mod ProgramWalks
 pub mod TreeView
-pub mod TreeWalks

@@ -1,5 +1,5 @@
 //! An actor in which each form of the language stands.
-use abstract_tree::abstract_program;
+use abstract_programs::abstract_program;
 use mo_lexer::lex;
 use mo_parser::parse;
 use std::test::Fail;

@@ -3,7 +3,7 @@ use Rattle.std.proofs.Common.{◌≡◌, ℕ, Bool, List, [], ◌∷◌, ap, ◌
 use Rattle.mo_syntax.specs.declared.literal.Literal.{Literal}
 use Rattle.abstract_types.specs.declared.names.PlacedName.{PlacedName}
 use Rattle.abstract_types.specs.declared.types.TypeNode.{TypeNode}
-use Rattle.abstract_types.specs.declared.patterns.Pattern.{Pattern}
+use Rattle.abstract_types.specs.declared.patterns.Pattern.{Pattern, fold_out-Pattern}
 use Rattle.abstract_types.specs.declared.patterns.PatternForm.{fold-roll-PatternForm}
 use Rattle.abstract_types.specs.declared.patterns.PatternForm.TheVariants as e
 use Rattle.abstract_types.specs.declared.patterns.PatternField.{PatternField, roll-PatternField, fold-roll-PatternField}
@@ -69,3 +69,7 @@ seen_Object xs = ap plain_form (sym (e.rolls-Object xs)) ∙ fold-roll-PatternFo
 pub seen_field : (x : PlacedName) (q : Pattern ℕ) → plain_field (roll-PatternField ℕ (record { name = x; pattern = q })) ≡ (λ rest. p.Field (named x) (plain q) rest)
 unfolding pattern pattern_form pattern_field
 seen_field x q = fold-roll-PatternField ℕ (p.PatternForm ℕ) (p.Pattern ℕ) (FieldView ℕ) (form_step same) (pattern_step same) (field_step same) (record { name = x; pattern = q })
+
+pub pattern_is : (q : Pattern ℕ) → plain q ≡ p.pattern q.note (plain_form q.form)
+unfolding pattern pattern_form pattern_field
+pattern_is q = fold_out-Pattern ℕ (p.PatternForm ℕ) (p.Pattern ℕ) (FieldView ℕ) (form_step same) (pattern_step same) (field_step same) q

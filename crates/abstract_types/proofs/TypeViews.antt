@@ -2,7 +2,7 @@
 use Rattle.std.proofs.Common.{◌≡◌, ℕ, Bool, List, ap, ◌∙◌, sym, map}
 use Rattle.mo_syntax.specs.declared.types.Sharing.{Sharing}
 use Rattle.abstract_types.specs.declared.names.PlacedName.{PlacedName}
-use Rattle.abstract_types.specs.declared.types.TypeNode.{TypeNode, roll-TypeNode, fold-roll-TypeNode}
+use Rattle.abstract_types.specs.declared.types.TypeNode.{TypeNode, roll-TypeNode, fold-roll-TypeNode, fold_out-TypeNode}
 use Rattle.abstract_types.specs.declared.types.TypeForm.{TypeForm, fold-roll-TypeForm}
 use Rattle.abstract_types.specs.declared.types.TypeForm.TheVariants as e
 use Rattle.abstract_types.specs.declared.types.TypeField.{TypeField, fold-roll-TypeField}
@@ -59,3 +59,7 @@ seen_EmptyTag name = ap type_field (sym (x.rolls-EmptyTag name)) ∙ fold-roll-T
 pub seen_node : (at : ℕ) (form : TypeForm) → type_node (roll-TypeNode (record { at = at; form = form })) ≡ p.node at (type_form form)
 unfolding type_node type_form type_field
 seen_node at form = fold-roll-TypeNode FieldView p.TypeForm p.TypeNode field_step form_step node_step (record { at = at; form = form })
+
+pub node_is : (n : TypeNode) → type_node n ≡ p.node n.at (type_form n.form)
+unfolding type_node type_form type_field
+node_is n = fold_out-TypeNode FieldView p.TypeForm p.TypeNode field_step form_step node_step n

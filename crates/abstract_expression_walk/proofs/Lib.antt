@@ -1,0 +1,2 @@
+mod DeclarationMaking
+mod LayerMaking

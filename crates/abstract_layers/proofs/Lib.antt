@@ -1,0 +1,2 @@
+mod ControlMaking
+mod ShapeMaking

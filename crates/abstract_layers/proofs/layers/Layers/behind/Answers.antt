@@ -1,0 +1,7 @@
+use Rattle.typing_rules.specs.AbstractExpressions.{in_expression}
+use Rattle.abstract_parts.specs.Shapes.{one_form}
+use Rattle.abstract_layers.proofs.ShapeMaking.{behind_made}
+use Rattle.abstract_layers.proofs.layers.Layers.behind.Goals as goal
+
+pub returns : goal.returns
+returns g c = behind_made (in_expression c.args.a.now) (one_form c.args.form) _ c.args.at c.args.tokens _ _ c.finish.result c.in_ok-of.ensures c.in_ok-form.ensures c.finish.ensures

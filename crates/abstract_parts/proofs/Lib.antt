@@ -1,0 +1,2 @@
+pub mod FormMaking
+pub mod ListMaking

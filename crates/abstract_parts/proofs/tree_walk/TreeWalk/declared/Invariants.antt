@@ -1,0 +1,9 @@
+use Rattle.std.proofs.Common.{drop}
+use Rattle.typing_rules.specs.AbstractExpressions.{in_declaration}
+use Rattle.abstract_tree.specs.TreeView.{plain_declaration}
+use Rattle.abstract_parts.specs.TreeWalks.{in_block}
+use Rattle.abstract_type_walk.proofs.Listing.{Along}
+use Rattle.abstract_parts.proofs.tree_walk.TreeWalk.declared.Given as goal
+
+abbrev pub invariant-loop-one : goal.invariant-loop-one
+invariant-loop-one g l = Along (λ d. in_block (in_declaration d)) plain_declaration l.fn.declarations l.initial.next (drop l.one-index l.fn.declarations) l.made l.next l.mark

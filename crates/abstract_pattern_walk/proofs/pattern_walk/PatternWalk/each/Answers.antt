@@ -1,0 +1,13 @@
+use Rattle.typing_rules.specs.AbstractPatterns.{in_pattern}
+use Rattle.abstract_types.specs.PatternView.{plain}
+use Rattle.abstract_type_walk.proofs.Listing.{none_made, one_more, all_made}
+use Rattle.abstract_pattern_walk.proofs.pattern_walk.PatternWalk.each.Goals as goal
+
+pub loop-one-init : goal.loop-one-init
+loop-one-init g c = none_made in_pattern plain c.args.patterns.now _ _ c.new-made.ensures
+
+pub loop-one-preserved : goal.loop-one-preserved
+loop-one-preserved g c = one_more in_pattern plain c.args.patterns.now _ c.args.patterns.now _ _ _ _ _ _ _ _ c.loop-one-test.true c.one-item.is c.in_ok-pattern.ensures c.in_ok-push.ensures.ok c.loop-one.invariant
+
+pub returns : goal.returns
+returns g c = all_made in_pattern plain c.args.patterns.now _ _ c.args.patterns.now _ _ _ _ c.in_ok-next.ensures c.loop-one-test.false c.loop-one.invariant

@@ -1,9 +1,0 @@
-use Rattle.std.proofs.Common.{drop}
-use Rattle.typing_rules.specs.AbstractPrograms.{in_field}
-use Rattle.abstract_tree.specs.TreeView.{plain_declaration}
-use Rattle.abstract_tree.specs.TreeWalks.{in_object}
-use Rattle.abstract_types.proofs.Listing.{Along}
-use Rattle.abstract_tree.proofs.program_making.actor_fields.Given as goal
-
-abbrev pub invariant-loop-one : goal.invariant-loop-one
-invariant-loop-one l = Along (λ d. in_object (in_field d)) plain_declaration l.fn.fields l.fn.at (drop l.one-index l.others) l.made l.next

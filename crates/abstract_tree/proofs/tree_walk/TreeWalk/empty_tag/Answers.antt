@@ -1,9 +1,0 @@
-use Rattle.std.proofs.Common.{arith}
-use Rattle.abstract_tree.proofs.TreeViews.{seen_Tag}
-use Rattle.abstract_tree.proofs.tree_walk.TreeWalk.empty_tag.Goals as goal
-
-pub returns : goal.returns
-returns g c = record {
-  part = simp (c.in_ok-made.ensures, seen_Tag, c.in_ok-name.ensures, c.as_slice.ensures);
-  next = omega (arith, c.in_ok-number_behind.ensures);
-}

@@ -1,9 +1,0 @@
-use Rattle.std.proofs.Common.{arith}
-use Rattle.abstract_tree.proofs.TreeViews.{seen_Try}
-use Rattle.abstract_tree.proofs.tree_walk.TreeWalk.try_catch.Goals as goal
-
-pub returns : goal.returns
-returns g c = record {
-  part = simp (c.in_ok-made.ensures, seen_Try, c.in_ok-body.ensures.part, c.in_ok-pattern.ensures.part, c.in_ok-handler.ensures.part, c.get.ensures, c.in_ok-pattern.ensures.next, c.in_ok-number_behind-2.ensures, c.in_ok-body.ensures.next, c.in_ok-number_behind.ensures);
-  next = omega (arith, c.in_ok-number_behind.ensures, c.in_ok-number_behind-2.ensures, c.in_ok-body.ensures.next, (rw c.get.ensures at c.in_ok-pattern.ensures.next), c.in_ok-handler.ensures.next);
-}

@@ -1,0 +1,4 @@
+pub mod ItemMaking
+pub mod Listing
+pub mod Spanning
+pub mod TypeMaking

@@ -1,0 +1,13 @@
+use Rattle.typing_rules.specs.AbstractTypes.{in_type}
+use Rattle.abstract_types.specs.TypeView.{type_node}
+use Rattle.abstract_type_walk.proofs.Listing.{none_made, one_more, all_made}
+use Rattle.abstract_type_walk.proofs.type_walk.TypeWalk.each.Goals as goal
+
+pub loop-one-init : goal.loop-one-init
+loop-one-init g c = none_made in_type type_node c.args.types.now _ _ c.new-made.ensures
+
+pub loop-one-preserved : goal.loop-one-preserved
+loop-one-preserved g c = one_more in_type type_node c.args.types.now _ c.args.types.now _ _ _ _ _ _ _ _ c.loop-one-test.true c.one-item.is c.in_ok-node.ensures c.in_ok-push.ensures.ok c.loop-one.invariant
+
+pub returns : goal.returns
+returns g c = all_made in_type type_node c.args.types.now _ _ c.args.types.now _ _ _ _ c.in_ok-next.ensures c.loop-one-test.false c.loop-one.invariant

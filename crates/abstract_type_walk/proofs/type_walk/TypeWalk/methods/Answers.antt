@@ -1,0 +1,13 @@
+use Rattle.typing_rules.specs.AbstractTypes.{in_type_method}
+use Rattle.abstract_types.specs.TypeView.{type_field}
+use Rattle.abstract_type_walk.proofs.Listing.{none_made, one_more, all_made}
+use Rattle.abstract_type_walk.proofs.type_walk.TypeWalk.methods.Goals as goal
+
+pub loop-one-init : goal.loop-one-init
+loop-one-init g c = none_made in_type_method type_field c.args.methods.now _ _ c.new-made.ensures
+
+pub loop-one-preserved : goal.loop-one-preserved
+loop-one-preserved g c = one_more in_type_method type_field c.args.methods.now _ c.args.methods.now _ _ _ _ _ _ _ _ c.loop-one-test.true c.one-item.is (rw c.get.ensures at c.in_ok-method.ensures) c.in_ok-push.ensures.ok c.loop-one.invariant
+
+pub returns : goal.returns
+returns g c = all_made in_type_method type_field c.args.methods.now _ _ c.args.methods.now _ _ _ _ c.in_ok-next.ensures c.loop-one-test.false c.loop-one.invariant

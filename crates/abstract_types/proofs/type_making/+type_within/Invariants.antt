@@ -1,4 +1,0 @@
-use Rattle.abstract_types.proofs.type_making.+type_within.Given as goal
-
-abbrev pub decreases-type_within : goal.decreases-type_within
-decreases-type_within l = l.depth

@@ -1,8 +1,0 @@
-use Rattle.std.proofs.Common.{drop}
-use Rattle.typing_rules.specs.AbstractTypes.{in_type}
-use Rattle.abstract_types.specs.TypeView.{type_node}
-use Rattle.abstract_types.proofs.Listing.{Along}
-use Rattle.abstract_types.proofs.type_making.each_type.Given as goal
-
-abbrev pub invariant-loop-one : goal.invariant-loop-one
-invariant-loop-one l = Along in_type type_node l.fn.types l.fn.at (drop l.one-index l.others) l.made l.next

@@ -1,8 +1,0 @@
-use Rattle.std.proofs.Common.{drop}
-use Rattle.typing_rules.specs.AbstractTypes.{in_type_item}
-use Rattle.abstract_types.specs.TypeView.{type_node}
-use Rattle.abstract_types.proofs.Listing.{Along}
-use Rattle.abstract_types.proofs.type_walk.TypeWalk.items.Given as goal
-
-abbrev pub invariant-loop-one : goal.invariant-loop-one
-invariant-loop-one g l = Along in_type_item type_node l.fn.items l.fn.at (drop l.one-index l.others) l.made l.next

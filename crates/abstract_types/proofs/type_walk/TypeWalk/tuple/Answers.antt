@@ -1,6 +1,0 @@
-use Rattle.abstract_types.proofs.TypeMaking.{tuple_made}
-use Rattle.abstract_types.proofs.TypeViews.{seen_Tuple}
-use Rattle.abstract_types.proofs.type_walk.TypeWalk.tuple.Goals as goal
-
-pub returns : goal.returns
-returns g c = tuple_made c.args.items.now _ _ _ _ _ _ c.requires.several c.in_ok-number_behind.ensures c.in_ok-items.ensures c.in_ok-number_behind-2.ensures (rw seen_Tuple at c.in_ok-made.ensures)

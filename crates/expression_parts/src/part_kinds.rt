@@ -1,0 +1,82 @@
+//! The parts of an expression, whatever is made of them.
+ghost use Rattle.std.specs.Prelude.{◌≡◌};
+ghost use Rattle.expression_parts.specs.Parts.{parts_of, seen_parts};
+ghost use Rattle.abstract_tree.specs.TreeView.{plain_form};
+
+use abstract_tree::{Case, Declaration, Expression, ExpressionForm, ObjectField};
+use abstract_types::{Pattern, Signature, TypeNode};
+use mo_syntax::Items;
+
+/// The parts of an expression by their kinds, in their order but for a pattern, which comes first.
+#[derive(Clone, Copy)]
+pub enum Parts<'a> {
+    Nothing,
+    One(&'a Expression<u32>),
+    Two(&'a Expression<u32>, &'a Expression<u32>),
+    Three(&'a Expression<u32>, &'a Expression<u32>, &'a Expression<u32>),
+    Each(&'a [Expression<u32>]),
+    Fields(&'a [ObjectField<u32>]),
+    Annotated(&'a Expression<u32>, &'a TypeNode),
+    Call(&'a Expression<u32>, &'a Option<Items<TypeNode>>, &'a [Expression<u32>]),
+    Switch(&'a Expression<u32>, &'a [Case<u32>]),
+    WithPattern(&'a Pattern<u32>, &'a Expression<u32>, &'a Expression<u32>),
+    Labelled(&'a Option<TypeNode>, &'a Expression<u32>),
+    Declared(&'a [Declaration<u32>]),
+    Function(&'a Signature<u32>, &'a Expression<u32>),
+    /// An operand at a type above its own, which is no part of what is written.
+    Subsumed(&'a Expression<u32>),
+}
+
+/// The parts of an expression of this form.
+pub fn parts_of_form(form: &ExpressionForm<u32>) -> Parts<'_>
+    ensures { seen_parts result ≡ parts_of (plain_form form.now) }
+{
+    match form {
+        ExpressionForm::Constant(_) => Parts::Nothing,
+        ExpressionForm::Name(_) => Parts::Nothing,
+        ExpressionForm::Tuple(items) => Parts::Each(items.as_slice()),
+        ExpressionForm::Optional(a) => Parts::One(a),
+        ExpressionForm::Tag(_) => Parts::Nothing,
+        ExpressionForm::Tagged(_, a) => Parts::One(a),
+        ExpressionForm::Array(_, items) => Parts::Each(items.as_slice()),
+        ExpressionForm::Object(fields) => Parts::Fields(fields.as_slice()),
+        ExpressionForm::Member(a, _) => Parts::One(a),
+        ExpressionForm::Projection(a, _) => Parts::One(a),
+        ExpressionForm::Index(a, b) => Parts::Two(a, b),
+        ExpressionForm::Annotated(a, t) => Parts::Annotated(a, t),
+        ExpressionForm::Negative(a) => Parts::One(a),
+        ExpressionForm::Binary(_, a, b) => Parts::Two(a, b),
+        ExpressionForm::Not(a) => Parts::One(a),
+        ExpressionForm::Assign(a, b) => Parts::Two(a, b),
+        ExpressionForm::AssignBy(_, a, b) => Parts::Two(a, b),
+        ExpressionForm::Call(a, types, arguments) => Parts::Call(a, types, arguments.as_slice()),
+        ExpressionForm::When(a, b) => Parts::Two(a, b),
+        ExpressionForm::If(a, b, c) => Parts::Three(a, b, c),
+        ExpressionForm::Switch(a, cases) => Parts::Switch(a, cases.as_slice()),
+        ExpressionForm::Try(a, q, b) => Parts::WithPattern(q, a, b),
+        ExpressionForm::While(a, b) => Parts::Two(a, b),
+        ExpressionForm::Loop(a) => Parts::One(a),
+        ExpressionForm::LoopWhile(a, b) => Parts::Two(a, b),
+        ExpressionForm::For(q, a, b) => Parts::WithPattern(q, a, b),
+        ExpressionForm::Label(_, t, a) => Parts::Labelled(t, a),
+        ExpressionForm::Break(_) => Parts::Nothing,
+        ExpressionForm::BreakWith(_, a) => Parts::One(a),
+        ExpressionForm::Continue(_) => Parts::Nothing,
+        ExpressionForm::Return => Parts::Nothing,
+        ExpressionForm::ReturnWith(a) => Parts::One(a),
+        ExpressionForm::Throw(a) => Parts::One(a),
+        ExpressionForm::Do(a) => Parts::One(a),
+        ExpressionForm::DoOption(a) => Parts::One(a),
+        ExpressionForm::Bang(a) => Parts::One(a),
+        ExpressionForm::Block(ds) => Parts::Declared(ds.as_slice()),
+        ExpressionForm::Function(g, a) => Parts::Function(g, a),
+        ExpressionForm::ObjectBlock(ds) => Parts::Declared(ds.as_slice()),
+        ExpressionForm::Assert(a) => Parts::One(a),
+        ExpressionForm::Ignore(a) => Parts::One(a),
+        ExpressionForm::Debug(a) => Parts::One(a),
+        ExpressionForm::ActorReference(_) => Parts::Nothing,
+        ExpressionForm::Await(a) => Parts::One(a),
+        ExpressionForm::BuiltIn(_) => Parts::Nothing,
+        ExpressionForm::Subsumed(a) => Parts::Subsumed(a),
+    }
+}
