@@ -1,2 +1,3 @@
 pub mod Stacking
 pub mod Seeing
+pub mod Looping

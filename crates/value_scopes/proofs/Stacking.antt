@@ -16,7 +16,7 @@ taken_back xs ys zs x e g =
     g ∙ (ap (λ (s : List (List ℕ)). take (length s - 1) s) e ∙ (ap (λ m. take m (xs ++ x ∷ [])) k ∙ take-append_seam xs (x ∷ [])))
 
 -- a list that is not empty, in two
-split_last : {A : Type 0} (xs : List A) → 0 < length xs → (front : List A) × ((x : A) × (xs ≡ front ++ x ∷ []))
+pub split_last : {A : Type 0} (xs : List A) → 0 < length xs → (front : List A) × ((x : A) × (xs ≡ front ++ x ∷ []))
 split_last [] h = absurd (omega arith)
 split_last (x ∷ []) h = ([], (x, refl))
 split_last (x ∷ y ∷ xs) h = let (front, (z, e)) = split_last (y ∷ xs) (omega arith) in (x ∷ front, (z, ap (λ l. x ∷ l) e))

@@ -1,3 +1,4 @@
 pub mod Stacks
 pub mod Values
 pub mod Places
+pub mod Labels

@@ -1,7 +1,9 @@
 //! Names with what they stand for.
 ghost use Rattle.std.specs.Prelude.{◌≡◌, ◌-◌, ◌∷◌, ◌++◌, [], List, ℕ, drop, length, option_map, OnOk, OnErr};
 ghost use Rattle.mo_scopes.specs.Scopes.{named};
+ghost use Rattle.value_scopes.specs.Labels.{first_looped};
 
+use crate::scopes::Label;
 use mo_num::Memory;
 use std::alloc::Global;
 use std::marker::Model;
@@ -96,5 +98,21 @@ impl<T: Drop> NameStack<T> {
         while self.len() > len {
             self.pop();
         }
+    }
+}
+
+impl NameStack<Label> {
+    /// Says of the innermost label whether it may be continued, and gives what was said before.
+    pub fn set_loop(&mut self, is_loop: bool) -> bool
+        ensures set { self.new ≡ first_looped is_loop self.old }
+        ensures was { self.old ≡ first_looped result self.old }
+    {
+        let len = self.items.len();
+        if len == 0 {
+            return false;
+        }
+        let label = self.items[len - 1];
+        self.items[len - 1] = Label { is_loop, ..label };
+        label.is_loop
     }
 }

@@ -1,0 +1,10 @@
+pub mod Chains
+pub mod Steps
+pub mod FirstAbove
+pub mod ListParts
+pub mod Forms
+pub mod NodeParts
+pub mod Ends
+pub mod Cases
+pub mod TypedParts
+pub mod Loops

@@ -1,0 +1,52 @@
+use Rattle.std.proofs.Common.{◌≡◌, ◌+◌, ℕ, suc, Err, IfSome, List, Ok, Option, arith, subst, sym}
+use Rattle.std.proofs.lemmas.List.{drop_all}
+use Rattle.type_terms.specs.declared.form.TermId.{TermId}
+use Rattle.type_definitions.specs.Tables.{Within}
+use Rattle.type_definitions.proofs.Meanings.{each_map, within_on}
+use Rattle.abstract_tree.specs.TreeView.{plain}
+use Rattle.judging.specs.Answers.{Answers}
+use Rattle.judging.specs.Views.{each_in, each_reached, judge, kind_reached, typed_in}
+use Rattle.judging.proofs.Chains.{no_memory}
+use Rattle.judging.proofs.ListParts.{Judging, all_judged, each_at, next, none_yet, one_at, refused}
+use Rattle.judging.proofs.TypedParts.{Given}
+use Rattle.judging.proofs.layer.Layer.each.Goals as goal
+
+pub loop-i-init : goal.loop-i-init
+loop-i-init g c = record {
+  judging = subst (λ (made : List Given). Judging c.args.self.now.site.place c.args.parts.now c.args.wanted.now c.args.scopes.now c.args.checker.now 0 made c.args.scopes.now c.args.checker.now) (sym c.new-made.ensures)
+      (none_yet c.args.self.now.site.place c.args.parts.now c.args.wanted.now c.args.scopes.now c.args.checker.now);
+  ready = c.requires.ready;
+  wanted = c.requires.wanted;
+}
+
+pub part-requires-clause-wanted : goal.part-requires-clause-wanted
+part-requires-clause-wanted g c =
+    subst (λ (o : Option TermId). IfSome o (Within c.loop-i.checker.types.forms)) (sym c.wanted_at.ensures) (each_at (Within c.loop-i.checker.types.forms) c.args.wanted.now c.loop-i.i c.loop-i.invariant.wanted)
+
+pub returns-in_err-part-clause-answer : goal.returns-in_err-part-clause-answer
+returns-in_err-part-clause-answer g c =
+    refused c.args.self.now.site.place c.args.parts.now c.args.wanted.now c.args.scopes.now c.args.checker.now c.loop-i.i c.loop-i.made c.loop-i.scopes c.part.new.scopes c.loop-i.checker c.part.new.checker c.index-parts-i.result
+    (one_at c.args.parts.now c.loop-i.i c.index-parts-i.result c.loop-i-test.true c.index-parts-i.is) c.loop-i.invariant.judging c.in_err-part.field-0.0 c.from_residual.result c.from_residual.ensures
+    (subst (λ (o : Option TermId). Answers typed_in kind_reached (judge c.args.self.now.site.place (plain c.index-parts-i.result) o) c.loop-i.scopes c.loop-i.checker c.part.new.scopes c.part.new.checker (Err c.in_err-part.field-0.0))
+    c.wanted_at.ensures c.in_err-part.ensures.answer)
+
+pub returns-in_err-push-clause-answer : goal.returns-in_err-push-clause-answer
+returns-in_err-push-clause-answer g c = no_memory each_in each_reached _ c.args.scopes.now _ c.args.checker.now _ c.from_residual-in_err-push.result c.from_residual-in_err-push.ensures
+
+pub loop-i-preserved : goal.loop-i-preserved
+loop-i-preserved g c =
+    let h = subst (λ (o : Option TermId). Answers typed_in kind_reached (judge c.args.self.now.site.place (plain c.index-parts-i.result) o) c.loop-i.scopes c.loop-i.checker c.part.new.scopes c.part.new.checker (Ok c.in_ok-part.part))
+    c.wanted_at.ensures c.in_ok-part.ensures.answer in
+    let one_more : suc c.loop-i.i ≡ c.loop-i.i + 1 = omega arith in
+    record {
+      judging = subst (λ (n : ℕ). Judging c.args.self.now.site.place c.args.parts.now c.args.wanted.now c.args.scopes.now c.args.checker.now n c.push.new.self c.part.new.scopes c.part.new.checker) one_more
+          (next c.args.self.now.site.place c.args.parts.now c.args.wanted.now c.args.scopes.now c.args.checker.now c.loop-i.i c.loop-i.made c.loop-i.scopes c.part.new.scopes c.loop-i.checker c.part.new.checker c.index-parts-i.result
+          (one_at c.args.parts.now c.loop-i.i c.index-parts-i.result c.loop-i-test.true c.index-parts-i.is) c.loop-i.invariant.judging c.in_ok-part.part c.push.new.self c.in_ok-push.ensures.ok h);
+      ready = c.in_ok-part.ensures.ready;
+      wanted = each_map (Within c.loop-i.checker.types.forms) (Within c.part.new.checker.types.forms) (λ id. within_on c.loop-i.checker.types.forms c.part.new.checker.types.forms id h.outcome.goes.forms) c.args.wanted.now c.loop-i.invariant.wanted;
+    }
+
+pub returns-clause-answer : goal.returns-clause-answer
+returns-clause-answer g c =
+    all_judged c.args.self.now.site.place c.args.parts.now c.args.wanted.now c.args.scopes.now c.args.checker.now c.loop-i.i c.loop-i.made c.loop-i.scopes c.loop-i.checker (drop_all c.loop-i.i c.args.parts.now c.loop-i-test.false)
+    c.loop-i.invariant.ready.sound c.loop-i.invariant.judging

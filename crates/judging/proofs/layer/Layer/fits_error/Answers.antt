@@ -1,0 +1,5 @@
+use Rattle.judging.proofs.Steps.{plain_error}
+use Rattle.judging.proofs.layer.Layer.fits_error.Goals as goal
+
+pub fits-requires-clause-plain : goal.fits-requires-clause-plain
+fits-requires-clause-plain g c = plain_error

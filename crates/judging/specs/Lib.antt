@@ -1,0 +1,5 @@
+pub mod Views
+pub mod Parts
+pub mod Answers
+pub mod Questions
+pub mod Heads

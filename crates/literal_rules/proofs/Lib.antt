@@ -1,0 +1,3 @@
+pub mod ByWanted
+pub mod Seen
+pub mod Texts

@@ -1,0 +1,6 @@
+//! The rules of literals.
+#![tactic(auto)]
+
+mod literals;
+
+pub use literals::{constant, number};
