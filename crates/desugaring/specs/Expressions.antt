@@ -29,7 +29,7 @@ use Rattle.typing_rules.specs.TypeScopes as scopes
 use Rattle.typing_rules.specs.Expressions.{element_of}
 use Rattle.typing_rules.specs.Nodes as counts
 use Rattle.typing_rules.specs.TypedTrees.{Note, Typed, type_of}
-use Rattle.desugaring.specs.FreeNames.{names_in, names_in_each, names_of, declared}
+use Rattle.desugaring.specs.FreeNames.{names_in, names_in_each, field_names, declared}
 use Rattle.desugaring.specs.Frames.{value, cell, kept, Labelled, Continued, Optional, Frame, with_names, with_exit, in_function, found, is_label, is_continued, is_optional, is_returned, exit}
 use Rattle.desugaring.specs.Nodes.{literal_at, built_in, array_method, text_method, at, acts, operates, constant, unit_value, named, held, operation, binary, kind_of}
 use Rattle.desugaring.specs.Patterns.{stands, pattern, patterns}
@@ -56,10 +56,10 @@ abbrev pub labels_of : ObjectFields Note → List Bytes
 labels_of p.NoFields = []
 labels_of (p.Field mutable x u a rest) = x.bytes ∷ labels_of rest
 
--- the names that the public declarations of an object bind
+-- the names of an object's fields, which its public declarations bind
 abbrev pub public_names : Declarations Note → List Bytes
 public_names p.End = []
-public_names (p.Then true n d rest) = names_of d ++ public_names rest
+public_names (p.Then true n d rest) = field_names d ++ public_names rest
 public_names (p.Then false n d rest) = public_names rest
 
 -- the result of a function of this type
@@ -156,7 +156,7 @@ module _ (defs : Definitions) (number : Term → TypeId) where
     form f n (p.Index a i) = element_at n.type (members_head defs (type_of a)) (tree f a) (tree f i)
     -- at a type above its own
     form f n (p.Annotated a u) = at defs number n.type (F.Block [] (tree f a))
-    form f n (p.Subsumed a) = at defs number n.type (F.Block [] (tree f a))
+    form f n (p.Subsumed a) = tree f a
     form f n (p.Negative a) = negative_of n.type a (tree f a)
     form f n (p.Binary o a b) = binary defs number o n.type (type_of a) (tree f a) (tree f b)
     form f n (p.Not a) = operates defs number n.type op.Not (tree f a ∷ [])

@@ -48,6 +48,14 @@ abbrev pub names_of_list : {N : Type 0} → Declarations N → List Bytes
 names_of_list p.End = []
 names_of_list (p.Then public n d rest) = names_of d ++ names_of_list rest
 
+-- the fields that a public declaration of an object gives it
+abbrev pub field_names : {N : Type 0} → Declaration N → List Bytes
+field_names (p.Let q a) = names_in q
+field_names (p.Var stable x t a) = x.bytes ∷ []
+field_names (p.Func x g body) = x.bytes ∷ []
+field_names (p.Class x g fields) = x.bytes ∷ []
+field_names _ = []
+
 abbrev mutual
   pub occurring : {N : Type 0} → Expression N → List Bytes
   occurring (p.exp n (p.Constant l)) = []

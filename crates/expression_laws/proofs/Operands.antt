@@ -132,13 +132,11 @@ module _ (S : Setting) (A : Place S) where
   raised_type : (u : Term) (b : p.Expression Note) → type_of (subsumed u b) ≡ u
   raised_type u (p.exp n x) = refl
 
-  raised_tree : (u : Term) (b : p.Expression Note) → Tree S A (subsumed u b) ≡ at S.defs S.number u (F.Block [] (Tree S A b))
+  raised_tree : (u : Term) (b : p.Expression Note) → Tree S A (subsumed u b) ≡ Tree S A b
   raised_tree u (p.exp n x) = refl
 
-  raised_typed : (u : Term) → Known S A u → (b : p.Expression Note) → Typed S.slots (Tree S A b) A.context (Of (S.number u)) → Typed S.slots (Tree S A (subsumed u b)) A.context (Of (S.number u))
-  raised_typed u k b h =
-      subst (λ z. Typed S.slots z A.context (Of (S.number u))) (sym (raised_tree u b))
-      ((a_value S A u k (F.Block [] (Tree S A b)) (S.number u, refl, h)).typed (S.number u) (self S (S.number u)))
+  raised_typed : (u : Term) (b : p.Expression Note) → Typed S.slots (Tree S A b) A.context (Of (S.number u)) → Typed S.slots (Tree S A (subsumed u b)) A.context (Of (S.number u))
+  raised_typed u b h = subst (λ z. Typed S.slots z A.context (Of (S.number u))) (sym (raised_tree u b)) h
 
   compare_value : (o : BinaryOperator) (c : Comparison) → Known S A t.Boolean → (u : Term) → Known S A u → is_ordered (head S.defs u) ≡ true → (x y : TypedExpression) → Typed S.slots x A.context (Of (S.number u))
       → Typed S.slots y A.context (Of (S.number u)) → Value S A t.Boolean (operates S.defs S.number t.Boolean (op.Compare c (scalar_of (head S.defs u))) (x ∷ y ∷ []))
@@ -224,7 +222,7 @@ module _ (S : Setting) (A : Place S) where
   compared n w kw o q i make =
       has S A n w t.Boolean (p.Binary o (subsumed q.0 q.1) (subsumed q.0 q.2)) (λ z. refl) kw (λ m.
       subst (λ u. Value S A t.Boolean (binary S.defs S.number o t.Boolean u (Tree S A (subsumed q.0 q.1)) (Tree S A (subsumed q.0 q.2)))) (sym (raised_type q.0 q.1))
-      (make (boolean_known S A.context.parameters m) (Tree S A (subsumed q.0 q.1)) (Tree S A (subsumed q.0 q.2)) (raised_typed q.0 i.known q.1 i.left) (raised_typed q.0 i.known q.2 i.right)))
+      (make (boolean_known S A.context.parameters m) (Tree S A (subsumed q.0 q.1)) (Tree S A (subsumed q.0 q.2)) (raised_typed q.0 q.1 i.left) (raised_typed q.0 q.2 i.right)))
 
   pub equality : (n : ℕ) (w : Option Term) → WantKnown S A w → (o : BinaryOperator) → family.Equality ≡ family.family o → (l m : Option Written) (j k : Judged) → IsJudged j → IsJudged k
       → Yields S.defs S.terms (Equality S.defs n w o l m j k) (Is S A w)

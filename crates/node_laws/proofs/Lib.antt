@@ -1,0 +1,5 @@
+pub mod Equations
+pub mod PatternNodes
+pub mod Arranging
+pub mod TreeNodes
+pub mod ProgramNodes

@@ -1,0 +1,12 @@
+//! What is written out has at most four times as many nodes as what is written.
+ghost use Rattle.node_laws.specs.Laws.{FunctionsAreCovered, ProgramsAreCovered};
+
+/// The parameters and the body of a function have at most four times as many nodes as the patterns and the expression that they are written as.
+pub fn functions_are_covered()
+    ensures { FunctionsAreCovered }
+{}
+
+/// The declarations of a program, without the parameters and bodies of functions, have at most four times as many nodes as they are written with.
+pub fn programs_are_covered()
+    ensures { ProgramsAreCovered }
+{}
