@@ -30,7 +30,7 @@ use Rattle.typing_rules.specs.Expressions.{element_of}
 use Rattle.typing_rules.specs.Nodes as counts
 use Rattle.typing_rules.specs.TypedTrees.{Note, Typed, type_of}
 use Rattle.desugaring.specs.FreeNames.{names_in, names_in_each, field_names, declared}
-use Rattle.desugaring.specs.Frames.{value, cell, kept, Labelled, Continued, Optional, Frame, with_names, with_exit, in_function, found, is_label, is_continued, is_optional, is_returned, exit}
+use Rattle.desugaring.specs.Frames.{Unnamed, value, cell, Labelled, Continued, Optional, Frame, with_entries, with_names, with_exit, in_function, found, kept_at, is_label, is_continued, is_optional, is_returned, exit}
 use Rattle.desugaring.specs.Nodes.{literal_at, built_in, array_method, text_method, at, acts, operates, constant, unit_value, named, held, operation, binary, kind_of}
 use Rattle.desugaring.specs.Patterns.{stands, pattern, patterns}
 use Rattle.desugaring.specs.Pieces.{Becomes, AStep, AFunction, AnExpression, Nothing, Piece, Arranged, arranged}
@@ -128,7 +128,7 @@ module _ (defs : Definitions) (number : Term → TypeId) where
 
   -- a function without a name, as the value of a group of its own
   abbrev pub alone : Term → (Frame → Function) → Frame → TypedExpression
-  alone u f frame = at defs number u (F.Block (roll-Step (F.Functions (f (with_names ([] ∷ []) frame) ∷ [])) ∷ []) (at defs number u (F.Name 0)))
+  alone u f frame = at defs number u (F.Block (roll-Step (F.Functions (f (with_entries (Unnamed ∷ []) frame) ∷ [])) ∷ []) (at defs number u (F.Name 0)))
 
   -- a name at a type
   abbrev pub bound : Term → TypedPattern
@@ -235,8 +235,7 @@ module _ (defs : Definitions) (number : Term → TypeId) where
     pub becomes : Note → Declaration Note → Becomes
     becomes n (p.Let q a) = AStep (map value (names_in q)) (λ f. roll-Step (F.Let (pattern defs number q) (tree f a)))
     becomes n (p.Var false x u a) = AStep (cell x.bytes ∷ []) (λ f. roll-Step (F.Var (tree f a)))
-    -- a stable variable has the name of what was kept of it around the actor
-    becomes n (p.Var true x u a) = AStep (cell x.bytes ∷ []) (λ f. roll-Step (F.Stable (found f (kept x.bytes)).index (tree f a)))
+    becomes n (p.Var true x u a) = AStep (cell x.bytes ∷ []) (λ f. roll-Step (F.Stable (kept_at f x.bytes) (tree f a)))
     becomes n (p.Func x g body) =
         AFunction x.bytes (function_of sort.Local g (counts.in_patterns g.parameters + counts.in_expression body) (λ inner. tree inner body))
     becomes n (p.Method query context x g body) = Nothing

@@ -3,20 +3,19 @@ use Rattle.std.specs.Prelude.{ℕ, zero, suc, Bool, true, false, List, [], ◌�
 use Rattle.std.specs.Str.{bytes_eq}
 use Rattle.typing_rules.specs.AbstractSyntax.{Bytes}
 
--- a name, and whether it is one of a cell
-pub record Entry : Type 0 where
-  pub name : Bytes
-  pub cell : Bool
+pub data Entry : Type 0 where
+  -- a name, which is one of a cell or not
+  Named : (x : Bytes) → (is_cell : Bool) → Entry
+  -- what was kept of the stable variable of this name
+  Kept : (x : Bytes) → Entry
+  -- what no name is found by
+  Unnamed : Entry
 
 abbrev pub value : Bytes → Entry
-value x = record { name = x; cell = false }
+value x = Named x false
 
 abbrev pub cell : Bytes → Entry
-cell x = record { name = x; cell = true }
-
--- the name under which what was kept of a stable variable stands around the declarations; no identifier begins so
-abbrev pub kept : Bytes → Bytes
-kept x = 0 ∷ x
+cell x = Named x true
 
 -- what can be left
 pub data Exit : Type 0 where
@@ -52,10 +51,20 @@ pub record Use : Type 0 where
 
 abbrev pub found_from : ℕ → List Entry → Bytes → Use
 found_from n [] x = record { index = n; cell = false }
-found_from n (e ∷ es) x = cond (bytes_eq e.name x) (record { index = n; cell = e.cell }) (found_from (suc n) es x)
+found_from n (Named y is_cell ∷ es) x = cond (bytes_eq y x) (record { index = n; cell = is_cell }) (found_from (suc n) es x)
+found_from n (_ ∷ es) x = found_from (suc n) es x
 
 abbrev pub found : Frame → Bytes → Use
 found f x = found_from zero f.names x
+
+abbrev pub kept_from : ℕ → List Entry → Bytes → ℕ
+kept_from n [] x = n
+kept_from n (Kept y ∷ es) x = cond (bytes_eq y x) n (kept_from (suc n) es x)
+kept_from n (_ ∷ es) x = kept_from (suc n) es x
+
+-- how many names stand before what was kept of a stable variable
+abbrev pub kept_at : Frame → Bytes → ℕ
+kept_at f x = kept_from zero f.names x
 
 abbrev pub is_label : Bytes → Exit → Bool
 is_label x (Labelled y) = bytes_eq x y

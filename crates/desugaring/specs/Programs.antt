@@ -20,14 +20,14 @@ use Rattle.typing_rules.specs.Heads.{results}
 use Rattle.typing_rules.specs.Nodes as counts
 use Rattle.typing_rules.specs.TypedTrees.{Note}
 use Rattle.desugaring.specs.FreeNames.{names_in, names_in_each}
-use Rattle.desugaring.specs.Frames.{value, kept, Frame, with_entries, in_function, found}
+use Rattle.desugaring.specs.Frames.{Entry, Kept, Unnamed, value, Frame, with_entries, in_function, found}
 use Rattle.desugaring.specs.Patterns.{pattern, patterns}
 use Rattle.desugaring.specs.Pieces.{Arranged, arranged}
 use Rattle.desugaring.specs.Expressions.{tree, pieces}
 
-abbrev pub option_name : Option Bytes → Bytes
-option_name None = []
-option_name (Some x) = x
+abbrev pub own_entry : Option Bytes → Entry
+own_entry None = Unnamed
+own_entry (Some x) = value x
 
 abbrev pub method_names : Declarations Note → List Bytes
 method_names p.End = []
@@ -42,7 +42,7 @@ stable_names (p.Then public n _ rest) = stable_names rest
 -- around the declarations stand the actor, its public functions, and what was kept of its stable variables
 abbrev pub around : Program Note → Frame
 around program = record {
-  names = value (option_name program.name) ∷ map value (method_names program.fields) ++ map (λ x. value (kept x)) (stable_names program.fields);
+  names = own_entry program.name ∷ map value (method_names program.fields) ++ map Kept (stable_names program.fields);
   exits = [];
 }
 
@@ -126,7 +126,7 @@ module _ (defs : Definitions) (number : Term → TypeId) where
   stable_of frame (p.Then public n _ rest) = stable_of frame rest
 
   abbrev pub behind : Declarations Note → Frame → Frame
-  behind ds frame = with_entries (copies (count_behind ds) (value [])) frame
+  behind ds frame = with_entries (copies (count_behind ds) Unnamed) frame
 
   abbrev pub program_of : List Slot → Program Note → Arranged → typed.Program
   program_of types program a = record {

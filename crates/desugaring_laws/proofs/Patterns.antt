@@ -71,7 +71,7 @@ entered_both : (xs ys : Names) (s : Scope) → entered (xs ++ ys) s ≡ entered 
 entered_both [] ys s = refl
 entered_both (x ∷ xs) ys s = entered_both xs ys ((x.0, constant x.1) ∷ s)
 
-beside : (xs ys : Names) → entered ys [] ++ entered xs [] ≡ entered (xs ++ ys) []
+pub beside : (xs ys : Names) → entered ys [] ++ entered xs [] ≡ entered (xs ++ ys) []
 beside xs ys = sym (entered_on ys (entered xs [])) ∙ sym (entered_both xs ys [])
 
 no_append : {A : Type 0} (xs : List A) (x : A) → xs ++ x ∷ [] ≡ [] → ⊥
@@ -86,7 +86,7 @@ empty_is : {A : Type 0} (xs : List A) → is_empty xs ≡ true → xs ≡ []
 empty_is [] h = refl
 empty_is (x ∷ xs) h = cc
 
-each_append : {A : Type 0} (P : A → Type 0) (xs ys : List A) → Each P xs → Each P ys → Each P (xs ++ ys)
+pub each_append : {A : Type 0} (P : A → Type 0) (xs ys : List A) → Each P xs → Each P ys → Each P (xs ++ ys)
 each_append P [] ys h k = k
 each_append P (x ∷ xs) ys h k = (h.0, each_append P xs ys h.1 k)
 

@@ -75,10 +75,10 @@ module _ (S : Setting) (A : Place S) where
   among_parameters (p' ∷ ps) rs r (inr m) = inr (among_parameters ps rs r m)
 
   -- the parameters of what is called
-  parameters_known : (v : Term) → Known S A v → (s : Sort) (ps rs : List Term) → head S.defs v ≡ node.Func s ps rs → (u : Term) → Among u ps → Known S A u
+  pub parameters_known : (v : Term) → Known S A v → (s : Sort) (ps rs : List Term) → head S.defs v ≡ node.Func s ps rs → (u : Term) → Among u ps → Known S A u
   parameters_known v k s ps rs e u m = inside S vs v u k (node.Func s ps rs) e (among_parameters ps rs u m)
 
-  results_scoped : (v : Term) → Known S A v → (s : Sort) (ps rs : List Term) → head S.defs v ≡ node.Func s ps rs → (u : Term) → Among u rs → Known S A u
+  pub results_scoped : (v : Term) → Known S A v → (s : Sort) (ps rs : List Term) → head S.defs v ≡ node.Func s ps rs → (u : Term) → Among u rs → Known S A u
   results_scoped v k s ps rs e u m = inside S vs v u k (node.Func s ps rs) e (among_results ps rs u m)
 
   -- what a message answers, as one type

@@ -17,7 +17,7 @@ use Rattle.typing_rules.specs.AsyncPlaces.{Body}
 use Rattle.typing_rules.specs.Contexts.{Scope, Bound, Context, constant, with_values}
 use Rattle.typing_rules.specs.Definitions.{Definitions}
 use Rattle.typing_rules.specs.Terms.{Term}
-use Rattle.desugaring.specs.Frames.{Entry, value, Frame, Use, found_from, found}
+use Rattle.desugaring.specs.Frames.{Entry, Named, Kept, Unnamed, value, Frame, Use, found_from, found}
 use Rattle.desugaring.specs.Frames as frames
 use Rattle.desugaring_laws.specs.Known.{IsKnown}
 use Rattle.desugaring_laws.specs.Laws.{wants}
@@ -28,16 +28,18 @@ use Rattle.expression_laws.specs.Fitting.{StandsFor, AValue, Fits}
 abbrev pub names_of : Names → List Bytes
 names_of xs = map (λ x. x.0) xs
 
-abbrev next : Use → Use
+abbrev pub next : Use → Use
 next x = record { index = suc x.index; cell = x.cell }
 
 next_either : (b : Bool) (x y z : Use) → y ≡ next z → (n : ℕ) (c : Bool) → cond b (record { index = suc n; cell = c }) y ≡ next (cond b (record { index = n; cell = c }) z)
 next_either true x y z h n c = refl
 next_either false x y z h n c = h
 
-found_next : (n : ℕ) (es : List Entry) (x : Bytes) → found_from (suc n) es x ≡ next (found_from n es x)
+pub found_next : (n : ℕ) (es : List Entry) (x : Bytes) → found_from (suc n) es x ≡ next (found_from n es x)
 found_next n [] x = refl
-found_next n (e ∷ es) x = next_either (bytes_eq e.name x) (found_from n es x) (found_from (suc (suc n)) es x) (found_from (suc n) es x) (found_next (suc n) es x) n e.cell
+found_next n (Named y is_cell ∷ es) x = next_either (bytes_eq y x) (found_from n es x) (found_from (suc (suc n)) es x) (found_from (suc n) es x) (found_next (suc n) es x) n is_cell
+found_next n (Kept y ∷ es) x = found_next (suc n) es x
+found_next n (Unnamed ∷ es) x = found_next (suc n) es x
 
 pub same_bytes : (x y : Bytes) → bytes_eq x y ≡ true → x ≡ y
 same_bytes x y h = (bytes_eq-Decides x y).0 h

@@ -12,7 +12,7 @@ use Rattle.typing_rules.specs.Definitions.{Definitions}
 use Rattle.typing_rules.specs.Terms.{Term}
 use Rattle.typing_rules.specs.TypedTrees.{Note}
 use Rattle.desugaring.specs.Expressions.{bound, object_of_names, public_names, pieces, becomes, tree}
-use Rattle.desugaring.specs.Frames.{Frame, found, kept}
+use Rattle.desugaring.specs.Frames.{Frame, kept_at}
 use Rattle.desugaring.specs.Patterns as made
 use Rattle.desugaring.specs.Pieces.{Arranged, arranged}
 use Rattle.desugaring.specs.Programs.{own_nodes, own_nodes_of, around}
@@ -52,7 +52,7 @@ module _ (defs : Definitions) (number : Term → TypeId) where
   piece_own : (n : Note) (d : Declaration Note) → arranging.Costs (λ s. s.own) nothing own_evaluated own_functions (becomes defs number n d) (own d)
   piece_own n (p.Let q a) = λ f. omega (arith, ap (λ (s : StepNodes). s.own) (let_nodes (made.pattern defs number q) (tree defs number f a)), pattern_covered defs number q, tree_nodes defs number f a)
   piece_own n (p.Var false x u a) = λ f. omega (arith, ap (λ (s : StepNodes). s.own) (var_nodes (tree defs number f a)), tree_nodes defs number f a)
-  piece_own n (p.Var true x u a) = λ f. omega (arith, ap (λ (s : StepNodes). s.own) (stable_nodes (found f (kept x.bytes)).index (tree defs number f a)), tree_nodes defs number f a)
+  piece_own n (p.Var true x u a) = λ f. omega (arith, ap (λ (s : StepNodes). s.own) (stable_nodes (kept_at f x.bytes) (tree defs number f a)), tree_nodes defs number f a)
   piece_own n (p.Func x g body) = λ f. omega arith
   piece_own n (p.Method query context x g body) = tt
   piece_own n (p.System x body) = tt

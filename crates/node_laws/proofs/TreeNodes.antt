@@ -28,7 +28,7 @@ use Rattle.typing_rules.specs.TypedTrees.{Note, Typed, type_of, count}
 use Rattle.typing_rules.specs.Expressions.{element_of}
 use Rattle.desugaring.specs.Expressions.{is_mutable, field_of, part_or, labels_of, or_else, public_names, block_of, object_operands, object_of_names, call_of, member_of, element_at, new_cell, tuple_of, negative_of, field_value, function_of, alone, bound, leaves, tree, form, trees, case_trees, field_trees, cell_tree, assigned, looped, pieces, becomes}
 use Rattle.desugaring.specs.FreeNames.{names_in, names_in_each, field_names}
-use Rattle.desugaring.specs.Frames.{Frame, Use, with_names, with_exit, in_function, found, kept, Continued, Labelled, Optional, is_label, is_continued, is_optional, is_returned, exit}
+use Rattle.desugaring.specs.Frames.{Unnamed, Frame, Use, with_entries, with_names, with_exit, in_function, found, kept_at, Continued, Labelled, Optional, is_label, is_continued, is_optional, is_returned, exit}
 use Rattle.desugaring.specs.Nodes.{literal_at, built_in, array_method, text_method, scalar_of, at, acts, operates, unit_value, flag, kind_of, held, named, operation, binary}
 use Rattle.desugaring.specs.Patterns as made
 use Rattle.desugaring.specs.Pieces.{Arranged, arranged}
@@ -254,9 +254,9 @@ module _ (defs : Definitions) (number : Term → TypeId) where
   function_cost : (g : Signature Note) (nodes : ℕ) (body : Frame → TypedExpression) (f : Frame) → nodes_of (function_of defs number sort.Local g nodes body f) ≡ in_patterns (made.patterns defs number g.parameters) + in_expression (body (in_function (names_in_each g.parameters) f))
   function_cost g nodes body f = function_nodes _
 
-  alone_nodes : (u : Term) (make : Frame → Function) (f : Frame) → in_expression (alone defs number u make f) ≡ 3 + nodes_of (make (with_names ([] ∷ []) f))
+  alone_nodes : (u : Term) (make : Frame → Function) (f : Frame) → in_expression (alone defs number u make f) ≡ 3 + nodes_of (make (with_entries (Unnamed ∷ []) f))
   alone_nodes u make f =
-      let g = make (with_names ([] ∷ []) f) in
+      let g = make (with_entries (Unnamed ∷ []) f) in
       omega (arith, block_nodes (number u) (roll-Step (F.Functions (g ∷ [])) ∷ []) (at defs number u (F.Name 0)), all_functions (g ∷ []), name_nodes (number u) 0)
 
   pub bound_nodes : (u : Term) → in_pattern (bound defs number u) ≡ 1
@@ -362,12 +362,12 @@ module _ (defs : Definitions) (number : Term → TypeId) where
     form_nodes f n (p.Bang a) = omega (arith, one n.type (action.Unwrap (exit f is_optional)) (tree defs number f a), tree_nodes f a)
     form_nodes f n (p.Block ds) = omega (arith, list_nodes n.type (arranged true (pieces defs number ds) f), list_cost true ds (pieces_cost ds) f, all_spent ds)
     form_nodes f n (p.Function g body) =
-        let inner = in_function (names_in_each g.parameters) (with_names ([] ∷ []) f) in
+        let inner = in_function (names_in_each g.parameters) (with_entries (Unnamed ∷ []) f) in
         let make = function_of defs number sort.Local g (counts.in_patterns g.parameters + counts.in_expression body) (λ inner. tree defs number inner body) in
         omega (
           arith,
           alone_nodes n.type make f,
-          function_cost g (counts.in_patterns g.parameters + counts.in_expression body) (λ inner. tree defs number inner body) (with_names ([] ∷ []) f),
+          function_cost g (counts.in_patterns g.parameters + counts.in_expression body) (λ inner. tree defs number inner body) (with_entries (Unnamed ∷ []) f),
           patterns_covered defs number g.parameters,
           tree_nodes inner body,
         )
@@ -559,7 +559,7 @@ module _ (defs : Definitions) (number : Term → TypeId) where
     piece_cost : (n : Note) (d : Declaration Note) → arranging.Costs (λ s. s.all) nodes_of all_evaluated all_functions (becomes defs number n d) (spent d)
     piece_cost n (p.Let q a) = λ f. omega (arith, ap (λ (s : StepNodes). s.all) (let_nodes (made.pattern defs number q) (tree defs number f a)), pattern_covered defs number q, tree_nodes f a)
     piece_cost n (p.Var false x u a) = λ f. omega (arith, ap (λ (s : StepNodes). s.all) (var_nodes (tree defs number f a)), tree_nodes f a)
-    piece_cost n (p.Var true x u a) = λ f. omega (arith, ap (λ (s : StepNodes). s.all) (stable_nodes (found f (kept x.bytes)).index (tree defs number f a)), tree_nodes f a)
+    piece_cost n (p.Var true x u a) = λ f. omega (arith, ap (λ (s : StepNodes). s.all) (stable_nodes (kept_at f x.bytes) (tree defs number f a)), tree_nodes f a)
     piece_cost n (p.Func x g body) = λ f.
         omega (arith, function_cost g (counts.in_patterns g.parameters + counts.in_expression body) (λ inner. tree defs number inner body) f, patterns_covered defs number g.parameters, tree_nodes (in_function (names_in_each g.parameters) f) body)
     piece_cost n (p.Method query context x g body) = tt

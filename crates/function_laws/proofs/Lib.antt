@@ -1,0 +1,5 @@
+pub mod Weakening
+pub mod InFunctions
+pub mod Parameters
+pub mod Functions
+pub mod Forms

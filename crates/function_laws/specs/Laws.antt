@@ -1,0 +1,25 @@
+-- Functions that are no shared ones, where they are written out.
+use Rattle.std.specs.Prelude.{◌≡◌, ℕ, List, []}
+use Rattle.mo_types.specs.declared.node.TypeId.{TypeId}
+use Rattle.mo_types.specs.Graph.{Slot}
+use Rattle.subtype_laws.specs.Reached.{Among}
+use Rattle.typed_tree.specs.OperationTypes.{Distinct}
+use Rattle.typing_rules.specs.AbstractSyntax.{Patterns, Signature, Expression}
+use Rattle.typing_rules.specs.AbstractSyntax as p
+use Rattle.typing_rules.specs.Definitions.{Definitions}
+use Rattle.typing_rules.specs.Terms.{Term, unit}
+use Rattle.desugaring.specs.FreeNames.{names_in_each}
+use Rattle.desugaring_laws.specs.GraphOf.{IsGraphOf}
+use Rattle.desugaring_laws.specs.Written.{EachIsWritten}
+use Rattle.expression_laws.specs.Results.{AreTyped}
+
+-- parameters as they are written: their characters can be, and their names differ
+pub record AreParametersFine (qs : Patterns ℕ) : Type 0 where
+  pub written : EachIsWritten qs
+  pub distinct : Distinct (names_in_each qs)
+
+-- A function without a name, whose body becomes a typed tree wherever it stands, becomes one.
+abbrev pub FunctionsAreTyped : Type 0
+FunctionsAreTyped =
+    (defs : Definitions) (slots : List Slot) (terms : List Term) (number : Term → TypeId) → IsGraphOf defs slots terms number → Among unit terms
+    → (n : ℕ) (g : Signature ℕ) (body : Expression ℕ) → g.generics ≡ [] → AreParametersFine g.parameters → AreTyped defs slots terms number body → AreTyped defs slots terms number (p.exp n (p.Function g body))
