@@ -20,9 +20,9 @@ use Rattle.typed_tree.specs.Wants.{Below}
 use Rattle.typed_tree.proofs.OwnLabels.{labels_own}
 use Rattle.typing_rules.specs.Terms.{Term}
 use Rattle.typing_rules.specs.Terms as t
-use Rattle.typing_rules.specs.Definitions.{Definitions}
+use Rattle.typing_rules.specs.Definitions.{Definitions, bound_at, unfolded}
 use Rattle.typing_rules.specs.Graphs.{or_none, term_of}
-use Rattle.typing_rules.specs.Heads.{head}
+use Rattle.typing_rules.specs.Heads.{shape, head}
 use Rattle.met_types.proofs.Counted.{place_among, each_at}
 use Rattle.met_types.proofs.Extending.{lt_or}
 use Rattle.met_types.proofs.Indexing.{in_range, there}
@@ -294,3 +294,54 @@ module _ (defs : Definitions) (slots : List Slot) (terms : List Term) (number : 
 
   pub in_scope : (vs : List ℕ) (u : Term) → Among u terms → MentionsOnly (head defs) vs u → IsInScope slots vs (number u)
   in_scope vs u m h = (subst IsSomething (sym (under u m).1) tt, record { by = λ n. mentions vs n u m (h.by n) })
+
+  -- ---- type parameters
+
+  bound_of_shape : (u : Term) (v : ℕ) (b : Term) → shape defs u ≡ node.Variable v b → bound_at defs.parameters v ≡ b
+  bound_of_shape (t.Number k) v b e = cc
+  bound_of_shape t.Boolean v b e = cc
+  bound_of_shape t.Character v b e = cc
+  bound_of_shape t.Text v b e = cc
+  bound_of_shape t.Blob v b e = cc
+  bound_of_shape t.Principal v b e = cc
+  bound_of_shape t.Error v b e = cc
+  bound_of_shape t.Null v b e = cc
+  bound_of_shape t.Any v b e = cc
+  bound_of_shape t.Bottom v b e = cc
+  bound_of_shape (t.Optional a) v b e = cc
+  bound_of_shape (t.Array a) v b e = cc
+  bound_of_shape (t.MutableArray a) v b e = cc
+  bound_of_shape (t.Tuple parts) v b e = cc
+  bound_of_shape (t.Object fields) v b e = cc
+  bound_of_shape (t.Actor methods) v b e = cc
+  bound_of_shape (t.Variant tags) v b e = cc
+  bound_of_shape (t.Function qs r) v b e = cc
+  bound_of_shape (t.Shared how qs r) v b e = cc
+  bound_of_shape (t.Async a) v b e = cc
+  bound_of_shape (t.Parameter w) v b e =
+      let f : node.Variable w (bound_at defs.parameters w) ≡ node.Variable v b = e in
+      let i : w ≡ v = cc in
+      let j : bound_at defs.parameters w ≡ b = cc in
+      subst (λ z. bound_at defs.parameters z ≡ b) i j
+  bound_of_shape (t.Use at us) v b e = cc
+
+  bound_is : (u : Term) (v : ℕ) (b : Term) → head defs u ≡ node.Variable v b → bound_at defs.parameters v ≡ b
+  unfolding head
+  bound_is u v b e = bound_of_shape (unfolded defs.types u) v b e
+
+  -- a type of the graph that is a type parameter has the parameter's bound, which stands in the graph
+  pub parameter_at : (i b : TypeId) (v : ℕ) → head_at slots i ≡ node.Variable v b → Among (bound_at defs.parameters v) terms × (number (bound_at defs.parameters v) ≡ b)
+  parameter_at i b v e = by (lt_or i.index (length terms)) where
+    by : (i.index < length terms) ⊎ (length terms ≤ i.index) → Among (bound_at defs.parameters v) terms × (number (bound_at defs.parameters v) ≡ b)
+    by (inl k) =
+        let n = defined i.index k in
+        let h : n.0 ≡ node.Variable v b = sym (ap node_or_bottom n.1) ∙ e in
+        let inside : b.index < length terms = (subst (λ y. Each (λ p. p.index < length terms) (types_in y)) h n.2).0 in
+        let seen : head defs (term_of terms i) ≡ node.Variable v (term_of terms b) = heads i ∙ ap (on_node (term_of terms)) e in
+        let same : bound_at defs.parameters v ≡ term_of terms b = bound_is (term_of terms i) v (term_of terms b) seen in
+        (subst (λ z. Among z terms) (sym same) (term_among b inside), ap number same ∙ back_at b inside)
+    by (inr k) =
+        let many : length terms ≡ length slots = g.tied.as_many in
+        let none : slice_get slots i.index ≡ None = past slots i.index (omega arith) in
+        let h : node.Bottom ≡ node.Variable v b = sym (ap (λ (s : Option Slot). node_or_bottom (node_of_slot s)) none) ∙ e in
+        absurd (let z : node.Bottom ≡ node.Variable v b = h in cc)

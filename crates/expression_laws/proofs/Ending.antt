@@ -68,7 +68,7 @@ abbrev pub Within : List Bytes → List Bytes → Type 0
 Within xs ys = (x : Bytes) → Among x xs → Among x ys
 
 pub narrowed : (S : Setting) (xs ys : List Bytes) → Within xs ys → (e : Context) (f : Frame) (c : typed.Context) → Fits S.defs S.slots S.terms S.number ys e f c → Fits S.defs S.slots S.terms S.number xs e f c
-narrowed S xs ys h e f c fit = record { names = λ x m. fit.names x (h x m); labels = fit.labels; returns = fit.returns; options = fit.options; body_is = fit.body_is; written = fit.written }
+narrowed S xs ys h e f c fit = record { names = λ x m. fit.names x (h x m); labels = fit.labels; returns = fit.returns; options = fit.options; body_is = fit.body_is; written = fit.written; bounds = fit.bounds }
 
 module _ (S : Setting) where
   pub self : (t : TypeId) → Below (head_at S.slots) t t

@@ -64,6 +64,7 @@ module _ (defs : Definitions) (slots : List Slot) (terms : List Term) (number : 
       options = λ r. (t, nearest Optional f t c.labels is_optional refl, h);
       body_is = fit.body_is;
       written = fit.written;
+      bounds = fit.bounds;
     }
 
     -- a label
@@ -75,6 +76,7 @@ module _ (defs : Definitions) (slots : List Slot) (terms : List Term) (number : 
       options = options_further used e f c fit (ALabel x) (number v) refl;
       body_is = fit.body_is;
       written = fit.written;
+      bounds = fit.bounds;
     }
       where
         by : (y : Bytes) (l : Label) (b : Bool) → bytes_eq y x ≡ b → cond (bytes_eq y x) (Some (record { type = v; loop = false })) (named e.labels y) ≡ Some l → IsLabelled defs slots terms number (with_exit (ALabel x) f) (with_label (number v) c) y l
@@ -95,6 +97,7 @@ module _ (defs : Definitions) (slots : List Slot) (terms : List Term) (number : 
       options = options_further used e f c fit (Continued x) (number unit) refl;
       body_is = fit.body_is;
       written = fit.written;
+      bounds = fit.bounds;
     }
       where
         looped : Label

@@ -95,6 +95,7 @@ module _ (S : Setting) where
       options = fit.options;
       body_is = fit.body_is;
       written = fit.written;
+      bounds = fit.bounds;
     }
       where
         none : (y : Bytes) (l : Label) → named [] y ≡ Some l → ⊥

@@ -111,4 +111,5 @@ module _ (defs : Definitions) (slots : List Slot) (terms : List Term) (number : 
     options = fit.options;
     body_is = fit.body_is;
     written = fit.written;
+    bounds = fit.bounds;
   }

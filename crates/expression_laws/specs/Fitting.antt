@@ -1,5 +1,5 @@
 -- How what the rules know around an expression, what stands around it where it is written out, and what is known around a typed tree fit together.
-use Rattle.std.specs.Prelude.{◌≡◌, ◌≢◌, ℕ, Bool, true, false, List, [], Some, slice_get}
+use Rattle.std.specs.Prelude.{◌≡◌, ◌≢◌, ℕ, Bool, true, false, List, [], ◌++◌, Some, slice_get}
 use Rattle.mo_scopes.specs.Scopes.{named}
 use Rattle.mo_types.specs.declared.node.Node.TheVariants as node
 use Rattle.mo_types.specs.declared.node.Sort.{Sort}
@@ -10,6 +10,7 @@ use Rattle.mo_types.specs.Heads.{opt_of}
 use Rattle.mo_types.specs.Sub.{IsSomething}
 use Rattle.subtype_laws.specs.Reached.{Among}
 use Rattle.typed_tree.specs.ActionTypes as typed
+use Rattle.typed_tree.specs.Instances.{IsAmong, MentionsOnly}
 use Rattle.typed_tree.specs.Wants.{Want, Of, CellOf, FutureOf, Generic}
 use Rattle.typing_rules.specs.AbstractSyntax.{Bytes}
 use Rattle.typing_rules.specs.AsyncPlaces.{Body, Update, Query, Local, calls}
@@ -17,6 +18,7 @@ use Rattle.typing_rules.specs.Contexts.{Bound, Label, Context, value_named}
 use Rattle.typing_rules.specs.Definitions.{Definitions}
 use Rattle.typing_rules.specs.Heads.{head}
 use Rattle.typing_rules.specs.Terms.{Term, unit}
+use Rattle.typing_rules.specs.Terms as t
 use Rattle.desugaring.specs.Frames.{Frame, is_label, is_continued, is_optional, is_returned, found, exit}
 use Rattle.desugaring_laws.specs.Known.{IsKnown}
 use Rattle.desugaring_laws.specs.Laws.{AreWrittenFine}
@@ -34,7 +36,7 @@ module _ (defs : Definitions) (slots : List Slot) (terms : List Term) (number : 
     ACell : (b.mutable ≡ true) → (b.generics ≡ []) → (cell ≡ true) → IsKnown defs terms vs b.type → (w ≡ CellOf (number b.type)) → StandsFor b cell w
     AFuture : (b.mutable ≡ false) → (b.generics ≡ []) → (cell ≡ false) → (a : Term) → (head defs b.type ≡ node.Async a) → IsKnown defs terms vs a → (calls body ≡ true → w ≡ FutureOf (number a))
         → StandsFor b cell w
-    AGeneric : (b.mutable ≡ false) → (b.generics ≢ []) → (cell ≡ false) → Among b.type terms → (w ≡ Generic b.generics (number b.type)) → StandsFor b cell w
+    AGeneric : (b.mutable ≡ false) → (b.generics ≢ []) → (cell ≡ false) → IsKnown defs terms (b.generics ++ vs) b.type → (w ≡ Generic b.generics (number b.type)) → StandsFor b cell w
 
 module _ (defs : Definitions) (slots : List Slot) (terms : List Term) (number : Term → TypeId) where
   -- what leaves a label, and what ends the body of a loop under it
@@ -55,3 +57,5 @@ module _ (defs : Definitions) (slots : List Slot) (terms : List Term) (number : 
     pub options : e.ends ≡ true → (o : TypeId) × (slice_get c.labels (exit f is_optional) ≡ Some o) × IsSomething (opt_of (head_at slots o))
     pub body_is : c.body ≡ sort_of e.body
     pub written : AreWrittenFine defs terms c.parameters e.types
+    -- the bound of a type parameter in scope mentions only such
+    pub bounds : (v : ℕ) → IsAmong v c.parameters → MentionsOnly (head defs) c.parameters (t.Parameter v)

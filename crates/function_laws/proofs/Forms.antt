@@ -26,7 +26,7 @@ pub by_rule : (S : Setting) (n : ℕ) (x : Form ℕ) → ((A : Place S) → A.us
     → AreTyped S.defs S.slots S.terms S.number (p.exp n x)
 by_rule S n x rule e f c fit w k = by w k where
   place : Place S
-  place = record { around = e.around; known = e; frame = f; context = c; used = occurring (p.exp n x); fits = record { names = fit.names; labels = fit.labels; returns = fit.returns; options = fit.options; body_is = fit.body_is; written = fit.written } }
+  place = record { around = e.around; known = e; frame = f; context = c; used = occurring (p.exp n x); fits = record { names = fit.names; labels = fit.labels; returns = fit.returns; options = fit.options; body_is = fit.body_is; written = fit.written; bounds = fit.bounds } }
 
   by : (w : Option Term) → IsWantFine S.defs c.parameters w → Yields S.defs S.terms (Judge S.defs e (p.exp n x) w) (Becomes S.defs S.slots S.terms S.number e.around e.labels f c w)
   by None k = rule place refl None tt

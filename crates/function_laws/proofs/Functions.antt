@@ -13,7 +13,7 @@ use Rattle.typed_tree.specs.declared.expression.Function.{Function}
 use Rattle.typed_tree.specs.declared.expression.Step.{roll-Step}
 use Rattle.typed_tree.specs.declared.expression.TypedExpression.{TypedExpression}
 use Rattle.typed_tree.specs.ActionTypes as typed
-use Rattle.typed_tree.specs.Instances.{MentionsOnly, types_in}
+use Rattle.typed_tree.specs.Instances.{IsAmong, MentionsOnly, types_in}
 use Rattle.typed_tree.specs.MemberTypes as member
 use Rattle.typed_tree.specs.OperationTypes.{Distinct}
 use Rattle.typed_tree.specs.Typing.{AreParameters, IsFunctionOf, NameOf, Declares, Typed, in_body, with_names}
@@ -100,7 +100,7 @@ module _ (S : Setting) where
   Inner f qs = frames.in_function (names_in_each qs) f
 
   module _ (e : Context) (f : Frame) (c : typed.Context) (outer : List Bytes) (fit : Fits S.defs S.slots S.terms S.number outer e f c) (gs : List ℕ) (s : TypeScope)
-      (written : AreWrittenFine S.defs S.terms (gs ++ c.parameters) s) where
+      (written : AreWrittenFine S.defs S.terms (gs ++ c.parameters) s) (bounds : (v : ℕ) → IsAmong v (gs ++ c.parameters) → MentionsOnly (head S.defs) (gs ++ c.parameters) (t.Parameter v)) where
     abbrev vs : List ℕ
     vs = gs ++ c.parameters
 
@@ -116,7 +116,7 @@ module _ (S : Setting) where
     body_fits qs used distinct within ps i r k =
         let xs = bound_in_each ps.patterns in
         let same : names_of xs ≡ names_in_each qs = sym (names_bound_in_each ps.patterns) ∙ i.same in
-        let base = in_function_body S.defs S.slots S.terms S.number outer e f c gs s (map S.number ps.types) r fit written k in
+        let base = in_function_body S.defs S.slots S.terms S.number outer e f c gs s (map S.number ps.types) r fit written bounds k in
         subst (λ x. Fits S.defs S.slots S.terms S.number used (rules.in_body Local (Some r) x (with_types s e)) (Inner f ps.patterns) (C ps r)) (sym i.scope_is)
         (subst (λ ns. Fits S.defs S.slots S.terms S.number used (rules.in_body Local (Some r) (entered xs []) (with_types s e)) (frames.in_function ns f) (C ps r)) (sym (names_bound_in_each ps.patterns))
         (with_pattern S.defs S.slots S.terms S.number used outer xs (λ x m. reach x (outside (names_in_each qs) used x m) same) (rules.in_body Local (Some r) [] (with_types s e)) (frames.in_function [] f)
@@ -199,12 +199,12 @@ module _ (S : Setting) (A : Place S) where
         let inner = frames.in_function (names_in_each ps.patterns) F' in
         let c = with_names (Of (S.number u) ∷ []) A.context in
         let e = rules.in_body Local (Some r) ps.scope Around in
-        let d = C S Around F' c A.used fit [] A.known.types A.fits.written ps r in
-        let inside_fits = body_fits S Around F' c A.used fit [] A.known.types A.fits.written g.parameters (occurring body) fine.distinct within ps i r kr in
+        let d = C S Around F' c A.used fit [] A.known.types A.fits.written A.fits.bounds ps r in
+        let inside_fits = body_fits S Around F' c A.used fit [] A.known.types A.fits.written A.fits.bounds g.parameters (occurring body) fine.distinct within ps i r kr in
         more S.defs S.terms (Judge S.defs e body (Some r)) (Becomes S.defs S.slots S.terms S.number Other [] inner d (Some r)) (Ended ps r) (j e inner d inside_fits (Some r) kr.fine) (λ b h.
         has S A n w u (p.Function (signature g ps.patterns) b) (λ l. refl) k (λ m.
         alone_value ps.types r (function_known ps.types i.types_known r kr m) (function_of S.defs S.number sort.Local (signature g ps.patterns) (counts.in_patterns ps.patterns + counts.in_expression b) (λ q. written_out S.defs S.number q b))
-        (function_typed S Around F' c A.used fit [] A.known.types A.fits.written g.parameters g ps i r kr no_parameters b (as_wanted S [] inner d r b h))))
+        (function_typed S Around F' c A.used fit [] A.known.types A.fits.written A.fits.bounds g.parameters g ps i r kr no_parameters b (as_wanted S [] inner d r b h))))
 
     -- with these types for parameters, and this one for a result, where none are written
     function_with : (us : List Term) → Each (Known S A) us → (v : Term) → Known S A v

@@ -6,7 +6,7 @@ use Rattle.mo_types.specs.declared.node.TypeId.{TypeId}
 use Rattle.mo_types.specs.Graph.{Slot}
 use Rattle.subtype_laws.specs.Reached.{Among}
 use Rattle.typed_tree.specs.ActionTypes as typed
-use Rattle.typed_tree.specs.Instances.{IsAmong}
+use Rattle.typed_tree.specs.Instances.{IsAmong, MentionsOnly}
 use Rattle.typed_tree.specs.Typing.{Signature, in_body, with_names}
 use Rattle.typed_tree.specs.Wants.{Want, Of, CellOf, FutureOf, Generic, in_function}
 use Rattle.typing_rules.specs.AbstractSyntax.{Bytes}
@@ -14,7 +14,9 @@ use Rattle.typing_rules.specs.AsyncPlaces.{Body, Local, calls}
 use Rattle.typing_rules.specs.Contexts.{Context, Bound, Label, value_named, with_types}
 use Rattle.typing_rules.specs.Contexts as rules
 use Rattle.typing_rules.specs.Definitions.{Definitions}
+use Rattle.typing_rules.specs.Heads.{head}
 use Rattle.typing_rules.specs.Terms.{Term}
+use Rattle.typing_rules.specs.Terms as t
 use Rattle.typing_rules.specs.TypeScopes.{TypeScope}
 use Rattle.desugaring.specs.Frames.{Unnamed, Frame, Use, with_entries, found, exit, is_returned, Returned}
 use Rattle.desugaring.specs.Frames as frames
@@ -22,7 +24,7 @@ use Rattle.desugaring_laws.specs.Known.{IsKnown}
 use Rattle.desugaring_laws.specs.Laws.{AreWrittenFine}
 use Rattle.expression_laws.specs.Fitting.{StandsFor, AValue, ACell, AFuture, AGeneric, IsLabelled, IsReturned, Fits}
 use Rattle.expression_laws.proofs.Naming.{next, found_next}
-use Rattle.function_laws.proofs.Weakening.{among_behind, known_more}
+use Rattle.function_laws.proofs.Weakening.{among_behind, among_between, known_more}
 
 got_mapped : {A B : Type 0} (g : A → B) (xs : List A) (n : ℕ) (x : A) → slice_get xs n ≡ Some x → slice_get (map g xs) n ≡ Some (g x)
 got_mapped g [] n x h = cc
@@ -52,6 +54,7 @@ module _ (defs : Definitions) (slots : List Slot) (terms : List Term) (number : 
     options = fit.options;
     body_is = fit.body_is;
     written = fit.written;
+    bounds = fit.bounds;
   }
 
   module _ (vs gs : List ℕ) (body : Body) where
@@ -60,7 +63,7 @@ module _ (defs : Definitions) (slots : List Slot) (terms : List Term) (number : 
     stands_inside b cell w (AValue m g c k e) = AValue m g c (known_more vs (gs ++ vs) (among_behind gs vs) defs terms b.type k) (ap (λ z. in_function z) e)
     stands_inside b cell w (ACell m g c k e) = ACell m g c (known_more vs (gs ++ vs) (among_behind gs vs) defs terms b.type k) (ap (λ z. in_function z) e)
     stands_inside b cell w (AFuture m g c a h k e) = AFuture m g c a h (known_more vs (gs ++ vs) (among_behind gs vs) defs terms a k) (λ q. absurd (not_so q))
-    stands_inside b cell w (AGeneric m g c k e) = AGeneric m g c k (ap (λ z. in_function z) e)
+    stands_inside b cell w (AGeneric m g c k e) = AGeneric m g c (known_more (b.generics ++ vs) (b.generics ++ (gs ++ vs)) (among_between b.generics gs vs) defs terms b.type k) (ap (λ z. in_function z) e)
 
   -- a function with these type parameters, and no others, whose parameters are to come
   abbrev pub signature_of : List ℕ → List TypeId → TypeId → Signature
@@ -68,9 +71,9 @@ module _ (defs : Definitions) (slots : List Slot) (terms : List Term) (number : 
 
   -- in its body, before its parameters
   pub in_function_body : (used : List Bytes) (e : Context) (f : Frame) (c : typed.Context) (gs : List ℕ) (s : TypeScope) (ps : List TypeId) (r : Term) → Fits defs slots terms number used e f c
-      → AreWrittenFine defs terms (gs ++ c.parameters) s → IsKnown defs terms (gs ++ c.parameters) r
+      → AreWrittenFine defs terms (gs ++ c.parameters) s → ((v : ℕ) → IsAmong v (gs ++ c.parameters) → MentionsOnly (head defs) (gs ++ c.parameters) (t.Parameter v)) → IsKnown defs terms (gs ++ c.parameters) r
       → Fits defs slots terms number used (rules.in_body Local (Some r) [] (with_types s e)) (frames.in_function [] f) (in_body (signature_of gs ps (number r)) [] c)
-  in_function_body used e f c gs s ps r fit written known = record {
+  in_function_body used e f c gs s ps r fit written bounds known = record {
     names = λ x m b h.
         let i = fit.names x m b h in
         (in_function i.0, got_mapped in_function c.names (found f x).index i.0 i.1, stands_inside c.parameters gs e.body b (found f x).cell i.0 i.2);
@@ -79,4 +82,5 @@ module _ (defs : Definitions) (slots : List Slot) (terms : List Term) (number : 
     options = λ h. absurd (not_so h);
     body_is = refl;
     written = written;
+    bounds = bounds;
   }

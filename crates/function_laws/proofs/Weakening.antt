@@ -17,6 +17,11 @@ pub among_behind : {A : Type 0} (xs ys : List A) (x : A) → IsAmong x ys → Is
 among_behind [] ys x m = m
 among_behind (y ∷ xs) ys x m = inr (among_behind xs ys x m)
 
+pub among_between : {A : Type 0} (xs ys zs : List A) (x : A) → IsAmong x (xs ++ zs) → IsAmong x (xs ++ (ys ++ zs))
+among_between [] ys zs x m = among_behind ys zs x m
+among_between (y ∷ xs) ys zs x (inl e) = inl e
+among_between (y ∷ xs) ys zs x (inr m) = inr (among_between xs ys zs x m)
+
 module _ (vs ws : List ℕ) (sub : (v : ℕ) → IsAmong v vs → IsAmong v ws) where
   parameter_more : {A : Type 0} (y : Node A) → ParameterAmong vs y → ParameterAmong ws y
   parameter_more (node.Number k) h = tt
