@@ -41,12 +41,12 @@ use Rattle.expression_laws.proofs.Parts.{projection_typed, index_typed}
 use Rattle.expression_laws.proofs.Simple.{not_typed, assert_typed, debug_typed, do_typed, throw_typed, when_typed, ignore_typed, option_typed}
 use Rattle.expression_laws.proofs.Tags.{tag_typed, tagged_typed}
 
-in_left : (xs ys : List Bytes) → Within xs (xs ++ ys)
+pub in_left : (xs ys : List Bytes) → Within xs (xs ++ ys)
 in_left [] ys x m = absurd m
 in_left (y ∷ xs) ys x (inl e) = inl e
 in_left (y ∷ xs) ys x (inr m) = inr (in_left xs ys x m)
 
-in_right : (xs ys : List Bytes) → Within ys (xs ++ ys)
+pub in_right : (xs ys : List Bytes) → Within ys (xs ++ ys)
 in_right [] ys x m = m
 in_right (y ∷ xs) ys x m = inr (in_right xs ys x m)
 

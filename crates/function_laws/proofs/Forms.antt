@@ -1,10 +1,10 @@
 -- Each form whose parts are typed.
-use Rattle.std.proofs.Common.{◌≡◌, ℕ, List, Option, Some, None, refl, sym, subst}
+use Rattle.std.proofs.Common.{◌≡◌, ℕ, List, ◌++◌, Option, Some, None, refl, sym, subst}
 use Rattle.mo_types.specs.declared.node.TypeId.{TypeId}
 use Rattle.mo_types.specs.Graph.{Slot}
 use Rattle.subtype_laws.specs.Reached.{Among}
 use Rattle.typed_tree.specs.ActionTypes as typed
-use Rattle.typing_rules.specs.AbstractSyntax.{Form}
+use Rattle.typing_rules.specs.AbstractSyntax.{Expressions, Form}
 use Rattle.typing_rules.specs.AbstractSyntax as p
 use Rattle.typing_rules.specs.AsyncPlaces.{Other}
 use Rattle.typing_rules.specs.Contexts.{Context, directly}
@@ -12,13 +12,18 @@ use Rattle.typing_rules.specs.Definitions.{Definitions}
 use Rattle.typing_rules.specs.Expressions.{Judge, Rule}
 use Rattle.typing_rules.specs.Terms.{Term, unit}
 use Rattle.desugaring.specs.Frames.{Frame}
-use Rattle.desugaring.specs.FreeNames.{occurring}
+use Rattle.desugaring.specs.FreeNames.{occurring, in_each}
 use Rattle.desugaring_laws.specs.GraphOf.{IsGraphOf}
 use Rattle.desugaring_laws.specs.Yields.{Yields}
 use Rattle.expression_laws.specs.Fitting.{Fits}
 use Rattle.expression_laws.specs.Results.{IsWantFine, Becomes, AreTyped}
-use Rattle.expression_laws.proofs.Ending.{Setting, Place, WantKnown, Is}
-use Rattle.function_laws.specs.Laws.{FunctionsAreTyped}
+use Rattle.expression_laws.proofs.Ending.{Setting, Place, Within, WantKnown, Is}
+use Rattle.expression_laws.specs.Laws.{EachIs}
+use Rattle.expression_laws.proofs.Forms.{in_left, in_right}
+use Rattle.expression_laws.proofs.Listed.{EachTyping}
+use Rattle.function_laws.specs.Laws.{FunctionsAreTyped, CallsAreTyped, ReferencesAreTyped}
+use Rattle.function_laws.proofs.Calls.{call_typed}
+use Rattle.function_laws.proofs.References.{reference_typed}
 use Rattle.function_laws.proofs.Functions.{function_typed_so}
 
 -- A form that is typed in each place is typed.
@@ -35,6 +40,26 @@ by_rule S n x rule e f c fit w k = by w k where
 pub functions_are_typed : FunctionsAreTyped
 functions_are_typed defs slots terms number graph units n g body none fine j =
     by_rule setting n (p.Function g body) (λ A e w k. function_typed_so setting A n g body none fine (λ x m. subst (λ xs. Among x xs) (sym e) m) j w k)
+  where
+    setting : Setting
+    setting = record { defs = defs; slots = slots; terms = terms; number = number; graph = graph; units = units }
+
+each_typed : (S : Setting) (A : Place S) (items : Expressions ℕ) → EachIs (AreTyped S.defs S.slots S.terms S.number) items → Within (in_each items) A.used → EachTyping S A items
+each_typed S A p.Nil j w = tt
+each_typed S A (p.Cons a rest) j w = ((j.0, λ x m. w x (in_left (occurring a) (in_each rest) x m)), each_typed S A rest j.1 (λ x m. w x (in_right (occurring a) (in_each rest) x m)))
+
+pub calls_are_typed : CallsAreTyped
+calls_are_typed defs slots terms number graph units n g types arguments j js =
+    by_rule setting n (p.Call g types arguments) (λ A e w k.
+    let within : Within (occurring g ++ in_each arguments) A.used = λ x m. subst (λ xs. Among x xs) (sym e) m in
+    call_typed setting A n g (j, λ x m. within x (in_left (occurring g) (in_each arguments) x m)) types arguments
+    (each_typed setting A arguments js (λ x m. within x (in_right (occurring g) (in_each arguments) x m))) w k)
+  where
+    setting : Setting
+    setting = record { defs = defs; slots = slots; terms = terms; number = number; graph = graph; units = units }
+
+pub references_are_typed : ReferencesAreTyped
+references_are_typed defs slots terms number graph units n m x u = by_rule setting n (p.Annotated (p.exp m (p.ActorReference x)) u) (λ A e w k. reference_typed setting A n m x u w k)
   where
     setting : Setting
     setting = record { defs = defs; slots = slots; terms = terms; number = number; graph = graph; units = units }

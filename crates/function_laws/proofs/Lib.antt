@@ -5,4 +5,6 @@ pub mod Functions
 pub mod Putting
 pub mod Instances
 pub mod Calls
+pub mod ReferenceBytes
+pub mod References
 pub mod Forms
