@@ -2,3 +2,4 @@ pub mod Yielding
 pub mod HeadForms
 pub mod Graph
 pub mod Patterns
+pub mod Scoping
