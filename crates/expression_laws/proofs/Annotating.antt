@@ -16,13 +16,13 @@ use Rattle.typing_rules.specs.TypedTrees.{type_of}
 use Rattle.typing_rules.specs.Types.{Reads}
 use Rattle.desugaring_laws.specs.Yields.{Yields}
 use Rattle.desugaring_laws.proofs.Yielding.{given, tests, by_case, part as after}
-use Rattle.expression_laws.proofs.Ending.{Setting, Place, self, there, value_of, as_wanted, Known, WantKnown, Is, IsPart, IsTypedPart, Tree, Value, judged, has, a_value}
+use Rattle.expression_laws.proofs.Ending.{Setting, Place, self, there, value_of, as_wanted, Known, WantKnown, Is, IsPart, IsTypedPart, Tree, Value, judged, has, a_value, written}
 
 module _ (S : Setting) (A : Place S) where
   pub annotated_typed : (at : ℕ) (a : Expression ℕ) (u : TypeNode) → IsTypedPart S A a → actor_text a ≡ None → (w : Option Term) → WantKnown S A w
       → Yields S.defs S.terms (Rule S.defs A.around (directly Other A.known) at (p.Annotated a u) w) (Is S A w)
   annotated_typed at a u j text w k =
-      after S.defs S.terms (Reads S.defs A.known.types u) _ (Known S A) (Is S A w) (A.fits.written u) (λ v kv.
+      after S.defs S.terms (Reads S.defs A.known.types u) _ (Known S A) (Is S A w) (written S A u) (λ v kv.
       by_case S.defs S.terms (actor_text a) _ _ (Is S A w) (λ x e. absurd (differ x e)) (λ e.
       judged S A a j (Some v) kv.fine _ (Is S A w) (λ b i.
       has S A at w v (p.Annotated b u) (λ l. refl) k (λ m. a_value S A v kv (F.Block [] (Tree S A b)) (S.number v, refl, as_wanted S A.known.labels A.frame A.context v b i)))))

@@ -41,7 +41,7 @@ use Rattle.expression_laws.specs.Laws.{IsPatternFine}
 use Rattle.expression_laws.specs.Results.{IsWantFine, Becomes, AreTyped}
 use Rattle.expression_laws.proofs.BoundNames.{names_bound, names_kept, both}
 use Rattle.expression_laws.proofs.Choices.{branches, two_known, at_whole, above_branch}
-use Rattle.expression_laws.proofs.Ending.{Setting, Place, Within, self, there, value_of, as_wanted, as_given, Known, WantKnown, Is, IsPart, IsTypedPart, Tree, Value, Made, judged, has, a_value}
+use Rattle.expression_laws.proofs.Ending.{Setting, Place, Within, self, there, value_of, as_wanted, as_given, Known, WantKnown, Is, IsPart, IsTypedPart, Tree, Value, Made, judged, has, a_value, written}
 use Rattle.expression_laws.proofs.Heads.{error_head, error_fine}
 use Rattle.expression_laws.proofs.Naming.{names_of, with_pattern}
 use Rattle.expression_laws.proofs.Outside.{outside}
@@ -67,7 +67,7 @@ module _ (S : Setting) (A : Place S) where
   binds q w u k used within =
       more S.defs S.terms (Stands S.defs A.known.types q u) (λ b. PatternTyped S.defs S.slots S.terms S.number A.context.parameters u b.0 b.1 × (names_in b.1 ≡ names_in q)) (Binds used u)
       (both S.defs S.terms (Stands S.defs A.known.types q u) (λ b. PatternTyped S.defs S.slots S.terms S.number A.context.parameters u b.0 b.1) (λ b. names_in b.1 ≡ names_in q)
-      (patterns_are_typed S.defs S.slots S.terms S.number S.graph S.units A.context.parameters A.known.types A.fits.written q w.written u k)
+      (patterns_are_typed S.defs S.slots S.terms S.number S.graph S.units A.context.parameters A.known.types (written S A) q w.written u k)
       (names_kept S.defs S.terms A.known.types q u)) (λ b i. record {
         stands = i.0.stands (S.number u) (self S (S.number u));
         fits = fit b i.0 i.1;

@@ -32,8 +32,11 @@ use Rattle.desugaring.specs.Frames.{Frame}
 use Rattle.desugaring.specs.Nodes.{Layer, node_of}
 use Rattle.desugaring_laws.specs.GraphOf.{IsGraphOf}
 use Rattle.desugaring_laws.specs.Known.{IsFine, IsKnown}
+use Rattle.desugaring_laws.specs.Laws.{AreWrittenFine}
+use Rattle.desugaring_laws.specs.Scopes.{HasNoFutures}
 use Rattle.desugaring_laws.specs.Yields.{Yields}
 use Rattle.desugaring_laws.proofs.Graph.{reflexive, transitive, below_number, part_known, head_there}
+use Rattle.desugaring_laws.proofs.Scoping.{written_fine}
 use Rattle.desugaring_laws.proofs.Yielding.{part as after}
 use Rattle.expression_laws.specs.Fitting.{Fits}
 use Rattle.expression_laws.specs.Results.{IsWantFine, TakesFuture, standing, IsBelowWanted, GivesValue, GivesFuture, Gives, Becomes, AreTyped}
@@ -47,6 +50,7 @@ pub record Setting : Type 0 where
   pub number : Term → TypeId
   pub graph : IsGraphOf defs slots terms number
   pub units : Among unit terms
+  pub futures : HasNoFutures defs
 
 -- where an expression stands
 pub record Place (S : Setting) : Type 0 where
@@ -68,7 +72,7 @@ abbrev pub Within : List Bytes → List Bytes → Type 0
 Within xs ys = (x : Bytes) → Among x xs → Among x ys
 
 pub narrowed : (S : Setting) (xs ys : List Bytes) → Within xs ys → (e : Context) (f : Frame) (c : typed.Context) → Fits S.defs S.slots S.terms S.number ys e f c → Fits S.defs S.slots S.terms S.number xs e f c
-narrowed S xs ys h e f c fit = record { names = λ x m. fit.names x (h x m); labels = fit.labels; returns = fit.returns; options = fit.options; body_is = fit.body_is; written = fit.written; bounds = fit.bounds }
+narrowed S xs ys h e f c fit = record { names = λ x m. fit.names x (h x m); labels = fit.labels; returns = fit.returns; options = fit.options; body_is = fit.body_is; types = fit.types; bounds = fit.bounds }
 
 module _ (S : Setting) where
   pub self : (t : TypeId) → Below (head_at S.slots) t t
@@ -116,6 +120,10 @@ module _ (S : Setting) where
 
     abbrev pub Known : Term → Type 0
     Known = IsKnown S.defs S.terms A.context.parameters
+
+    -- each type that is written there is one of values
+    pub written : AreWrittenFine S.defs S.terms A.context.parameters A.known.types
+    written = written_fine A.context.parameters A.known.types A.fits.types S.defs S.futures A.fits.bounds S.terms
 
     abbrev pub WantKnown : Option Term → Type 0
     WantKnown = IsWantKnown S.defs S.terms A.context.parameters

@@ -63,7 +63,7 @@ module _ (defs : Definitions) (slots : List Slot) (terms : List Term) (number : 
       returns = returns_further used e f c fit Optional t refl;
       options = λ r. (t, nearest Optional f t c.labels is_optional refl, h);
       body_is = fit.body_is;
-      written = fit.written;
+      types = fit.types;
       bounds = fit.bounds;
     }
 
@@ -75,7 +75,7 @@ module _ (defs : Definitions) (slots : List Slot) (terms : List Term) (number : 
       returns = returns_further used e f c fit (ALabel x) (number v) refl;
       options = options_further used e f c fit (ALabel x) (number v) refl;
       body_is = fit.body_is;
-      written = fit.written;
+      types = fit.types;
       bounds = fit.bounds;
     }
       where
@@ -96,7 +96,7 @@ module _ (defs : Definitions) (slots : List Slot) (terms : List Term) (number : 
       returns = returns_further used e f c fit (Continued x) (number unit) refl;
       options = options_further used e f c fit (Continued x) (number unit) refl;
       body_is = fit.body_is;
-      written = fit.written;
+      types = fit.types;
       bounds = fit.bounds;
     }
       where

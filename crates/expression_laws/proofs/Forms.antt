@@ -187,12 +187,12 @@ module _ (S : Setting) (A : Place S) where
   by_form n (p.Subsumed a) j u w k = absurd j
 
 pub forms_are_typed : FormsAreTyped
-forms_are_typed defs slots terms number graph units n x j e f c fit w k = by w k where
+forms_are_typed defs slots terms number graph units futures n x j e f c fit w k = by w k where
   setting : Setting
-  setting = record { defs = defs; slots = slots; terms = terms; number = number; graph = graph; units = units }
+  setting = record { defs = defs; slots = slots; terms = terms; number = number; graph = graph; units = units; futures = futures }
 
   place : Place setting
-  place = record { around = e.around; known = e; frame = f; context = c; used = occurring (p.exp n x); fits = record { names = fit.names; labels = fit.labels; returns = fit.returns; options = fit.options; body_is = fit.body_is; written = fit.written; bounds = fit.bounds } }
+  place = record { around = e.around; known = e; frame = f; context = c; used = occurring (p.exp n x); fits = record { names = fit.names; labels = fit.labels; returns = fit.returns; options = fit.options; body_is = fit.body_is; types = fit.types; bounds = fit.bounds } }
 
   by : (w : Option Term) → IsWantFine defs c.parameters w → Yields defs terms (Judge defs e (p.exp n x) w) (Becomes defs slots terms number e.around e.labels f c w)
   by None k = by_form setting place n x j (all (occurring (p.exp n x))) None tt

@@ -38,7 +38,7 @@ use Rattle.desugaring_laws.proofs.Patterns.{unit_fine}
 use Rattle.desugaring_laws.proofs.Yielding.{more, given, tests, by_case, part as after}
 use Rattle.expression_laws.specs.Fitting.{IsLabelled, Fits}
 use Rattle.expression_laws.specs.Results.{standing, GivesValue, Gives, Becomes, AreTyped}
-use Rattle.expression_laws.proofs.Ending.{Setting, Place, IsTypedPart, part_fits, self, there, inside, settled, value_of, as_wanted, as_given, Known, WantKnown, Is, IsPart, Tree, Value, judged, wanting, has_so, has, fits, a_value, acts}
+use Rattle.expression_laws.proofs.Ending.{Setting, Place, IsTypedPart, part_fits, self, there, inside, settled, value_of, as_wanted, as_given, Known, WantKnown, Is, IsPart, Tree, Value, judged, wanting, has_so, has, fits, a_value, acts, written}
 use Rattle.expression_laws.proofs.Exits.{with_option, with_new_label, in_body_of}
 use Rattle.expression_laws.proofs.Heads.{boolean_head, boolean_fine, bottom_head, bottom_fine, option_head, made_fine}
 use Rattle.expression_laws.proofs.Simple.{boolean_there, unit_there, unit_known, unit_typed, unit_at, option_value, only}
@@ -94,7 +94,7 @@ module _ (S : Setting) where
       returns = fit.returns;
       options = fit.options;
       body_is = fit.body_is;
-      written = fit.written;
+      types = fit.types;
       bounds = fit.bounds;
     }
       where
@@ -165,7 +165,7 @@ module _ (S : Setting) where
 
     pub reads_or : (a : Option TypeNode) (u : Term) → Known S A u → Yields S.defs S.terms (ReadsOr S.defs A.known.types a u) (Known S A)
     reads_or None u k = k
-    reads_or (Some a) u k = A.fits.written a
+    reads_or (Some a) u k = (written S A) a
 
     pub label_typed : (n : ℕ) (x : Bytes) (u : Option TypeNode) (a : Expression ℕ) → Typing a → Asked n (p.Label x u a)
     label_typed n x u a j w k =

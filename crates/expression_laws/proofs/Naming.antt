@@ -110,6 +110,6 @@ module _ (defs : Definitions) (slots : List Slot) (terms : List Term) (number : 
     returns = λ u h. let i = fit.returns u h in record { known = i.known; left = i.left };
     options = fit.options;
     body_is = fit.body_is;
-    written = fit.written;
+    types = fit.types;
     bounds = fit.bounds;
   }

@@ -46,7 +46,7 @@ use Rattle.desugaring_laws.proofs.HeadForms.{is_object}
 use Rattle.desugaring_laws.proofs.Patterns.{find_seen, find_among}
 use Rattle.desugaring_laws.proofs.Yielding.{anything, more, tests, by_case, part as after}
 use Rattle.expression_laws.specs.Laws.{labels_in}
-use Rattle.expression_laws.proofs.Ending.{Setting, Place, self, trans, there, inside, value_of, as_wanted, Known, WantKnown, Is, IsPart, IsTypedPart, part_fits, Tree, Value, Made, has, fits, a_cell, acts}
+use Rattle.expression_laws.proofs.Ending.{Setting, Place, self, trans, there, inside, value_of, as_wanted, Known, WantKnown, Is, IsPart, IsTypedPart, part_fits, Tree, Value, Made, has, fits, a_cell, acts, written}
 use Rattle.expression_laws.proofs.Heads.{object_head, made_fine}
 use Rattle.expression_laws.proofs.Wanting.{wanted_is}
 use Rattle.expression_laws.proofs.BoundNames.{both}
@@ -138,7 +138,7 @@ module _ (S : Setting) (A : Place S) where
       by_case S.defs S.terms (find x gs) _ _ (Fits gs mutable x) (λ g e.
       tests S.defs S.terms condition.Mismatch n (same mutable g.mutable) _ (Fits gs mutable x) (λ m.
       by_case S.defs S.terms u _ _ (Fits gs mutable x) (λ v i.
-      after S.defs S.terms (Reads S.defs A.known.types v) _ (Known S A) (Fits gs mutable x) (A.fits.written v) (λ t kt.
+      after S.defs S.terms (Reads S.defs A.known.types v) _ (Known S A) (Fits gs mutable x) ((written S A) v) (λ t kt.
       needs_each n (field_questions mutable t g.part) _ (Fits gs mutable x) (λ hs.
       more S.defs S.terms (Judge S.defs (directly Other A.known) a (Some t)) (IsPart S A (Some t)) (Fits gs mutable x) (at_type t kt) (λ b h.
       wanted_field gs mutable x g e (same_is mutable g.mutable m) (known g x e) b
@@ -147,7 +147,7 @@ module _ (S : Setting) (A : Place S) where
       more S.defs S.terms (Judge S.defs (directly Other A.known) a (Some g.part)) (IsPart S A (Some g.part)) (Fits gs mutable x) (at_type g.part (known g x e)) (λ b h.
       wanted_field gs mutable x g e (same_is mutable g.mutable m) (known g x e) b (as_wanted S A.known.labels A.frame A.context g.part b h))))) (λ e.
       by_case S.defs S.terms u _ _ (Fits gs mutable x) (λ v i.
-      after S.defs S.terms (Reads S.defs A.known.types v) _ (Known S A) (Fits gs mutable x) (A.fits.written v) (λ t kt.
+      after S.defs S.terms (Reads S.defs A.known.types v) _ (Known S A) (Fits gs mutable x) ((written S A) v) (λ t kt.
       more S.defs S.terms (Judge S.defs (directly Other A.known) a (Some t)) (IsPart S A (Some t)) (Fits gs mutable x) (at_type t kt) (λ b h.
       further_field gs mutable x e b (value_of S A.known.labels A.frame A.context (Some t) b h)))) (λ i.
       more S.defs S.terms (Judge S.defs (directly Other A.known) a None) (IsPart S A None) (Fits gs mutable x) (j.0 (directly Other A.known) A.frame A.context (part_fits S A a j.1) None tt) (λ b h.
@@ -214,7 +214,7 @@ module _ (S : Setting) (A : Place S) where
 
   reads_term : (a : p.TypeNode) → Yields S.defs S.terms (Reads S.defs A.known.types a) (λ v. Known S A v × (v ≡ term A.known.types a))
   reads_term a =
-      both S.defs S.terms (Reads S.defs A.known.types a) (Known S A) (λ v. v ≡ term A.known.types a) (A.fits.written a)
+      both S.defs S.terms (Reads S.defs A.known.types a) (Known S A) (λ v. v ≡ term A.known.types a) (written S A a)
       (after S.defs S.terms (Proper S.defs A.known.types a) _ (λ x. Unit {0}) (λ v. v ≡ term A.known.types a) (anything S.defs S.terms (Proper S.defs A.known.types a)) (λ x h. λ m. refl))
 
   own_fields : (fields : ObjectFields ℕ) → EachField fields → Yields S.defs S.terms (JudgeFields S.defs (directly Other A.known) fields []) (OwnFields fields)

@@ -10,7 +10,6 @@ use Rattle.mo_types.specs.Heads.{opt_of}
 use Rattle.mo_types.specs.Sub.{IsSomething}
 use Rattle.subtype_laws.specs.Reached.{Among}
 use Rattle.typed_tree.specs.ActionTypes as typed
-use Rattle.typed_tree.specs.Instances.{IsAmong, MentionsOnly}
 use Rattle.typed_tree.specs.Wants.{Want, Of, CellOf, FutureOf, Generic}
 use Rattle.typing_rules.specs.AbstractSyntax.{Bytes}
 use Rattle.typing_rules.specs.AsyncPlaces.{Body, Update, Query, Local, calls}
@@ -18,10 +17,9 @@ use Rattle.typing_rules.specs.Contexts.{Bound, Label, Context, value_named}
 use Rattle.typing_rules.specs.Definitions.{Definitions}
 use Rattle.typing_rules.specs.Heads.{head}
 use Rattle.typing_rules.specs.Terms.{Term, unit}
-use Rattle.typing_rules.specs.Terms as t
 use Rattle.desugaring.specs.Frames.{Frame, is_label, is_continued, is_optional, is_returned, found, exit}
 use Rattle.desugaring_laws.specs.Known.{IsKnown}
-use Rattle.desugaring_laws.specs.Laws.{AreWrittenFine}
+use Rattle.desugaring_laws.specs.Scopes.{IsScopeFine, AreBoundsIn}
 
 -- how the function is called in whose body an expression stands
 abbrev pub sort_of : Body → Sort
@@ -56,6 +54,5 @@ module _ (defs : Definitions) (slots : List Slot) (terms : List Term) (number : 
     pub returns : (u : Term) → e.returns ≡ Some u → IsReturned f c u
     pub options : e.ends ≡ true → (o : TypeId) × (slice_get c.labels (exit f is_optional) ≡ Some o) × IsSomething (opt_of (head_at slots o))
     pub body_is : c.body ≡ sort_of e.body
-    pub written : AreWrittenFine defs terms c.parameters e.types
-    -- the bound of a type parameter in scope mentions only such
-    pub bounds : (v : ℕ) → IsAmong v c.parameters → MentionsOnly (head defs) c.parameters (t.Parameter v)
+    pub types : IsScopeFine c.parameters e.types
+    pub bounds : AreBoundsIn c.parameters defs

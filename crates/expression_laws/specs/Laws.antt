@@ -12,6 +12,7 @@ use Rattle.typing_rules.specs.Expressions.{actor_text}
 use Rattle.typing_rules.specs.Terms.{Term, unit}
 use Rattle.desugaring.specs.FreeNames.{names_in}
 use Rattle.desugaring_laws.specs.GraphOf.{IsGraphOf}
+use Rattle.desugaring_laws.specs.Scopes.{HasNoFutures}
 use Rattle.desugaring_laws.specs.Written.{IsWritten, PatternIsWritten}
 use Rattle.expression_laws.specs.Results.{AreTyped}
 
@@ -91,5 +92,5 @@ module _ (Q : Expression ℕ → Type 0) where
 -- Over a graph of the types that are met and of (), an expression of one of these forms whose parts become typed trees wherever they stand becomes one.
 abbrev pub FormsAreTyped : Type 0
 FormsAreTyped =
-    (defs : Definitions) (slots : List Slot) (terms : List Term) (number : Term → TypeId) → IsGraphOf defs slots terms number → Among unit terms
+    (defs : Definitions) (slots : List Slot) (terms : List Term) (number : Term → TypeId) → IsGraphOf defs slots terms number → Among unit terms → HasNoFutures defs
     → (n : ℕ) (x : Form ℕ) → PartsAre (AreTyped defs slots terms number) x → AreTyped defs slots terms number (p.exp n x)

@@ -41,10 +41,11 @@ use Rattle.desugaring.specs.Nodes as nodes
 use Rattle.desugaring_laws.specs.Known.{IsKnown}
 use Rattle.desugaring_laws.specs.Yields.{Yields}
 use Rattle.desugaring_laws.proofs.Graph.{parts_there}
+use Rattle.desugaring_laws.proofs.Scoping.{scoped_in}
 use Rattle.desugaring_laws.proofs.Yielding.{more, given, tests, by_case, part as after}
 use Rattle.expression_laws.specs.Fitting.{StandsFor, AValue, ACell, AFuture, AGeneric}
 use Rattle.expression_laws.proofs.Calling.{called_typed}
-use Rattle.expression_laws.proofs.Ending.{Setting, Place, Within, IsTypedPart, IsPart, part_fits, there, value_of, Known, WantKnown, Is, Tree, Value, a_value, acts}
+use Rattle.expression_laws.proofs.Ending.{Setting, Place, Within, IsTypedPart, IsPart, part_fits, there, value_of, Known, WantKnown, Is, Tree, Value, a_value, acts, written}
 use Rattle.expression_laws.proofs.Heads.{number_head, number_fine, array_head, mutable_array_head, made_fine}
 use Rattle.expression_laws.proofs.Listed.{EachTyping}
 use Rattle.expression_laws.proofs.Members.{function_at, function_there}
@@ -157,7 +158,7 @@ module _ (S : Setting) (A : Place S) where
   reads_each : (types : List TypeNode) → Yields S.defs S.terms (ReadsEach S.defs A.known.types types) (AreRead types)
   reads_each [] = (tt, refl)
   reads_each (a ∷ rest) =
-      after S.defs S.terms (Reads S.defs A.known.types a) _ (Known S A) (AreRead (a ∷ rest)) (A.fits.written a) (λ u k.
+      after S.defs S.terms (Reads S.defs A.known.types a) _ (Known S A) (AreRead (a ∷ rest)) (written S A a) (λ u k.
       after S.defs S.terms (ReadsEach S.defs A.known.types rest) _ (AreRead rest) (AreRead (a ∷ rest)) (reads_each rest) (λ us i. ((k, i.0), ap suc i.1)))
 
   -- the type of a function at these type arguments
@@ -207,7 +208,7 @@ module _ (S : Setting) (A : Place S) where
           let us = i.arguments in
           let met = λ (z : Term) (m : Among z us). (known_at us i.known z m).there in
           let there_put : Among (with_arguments (zipped b.generics us) b.type) S.terms = subst (λ z. Among z S.terms) i.same there_u in
-          let known_put = instance_known S b.generics us i.many met vs (λ z m. (known_at us i.known z m).fine.scoped) A.fits.bounds b.type k (λ z m. (known_at us i.known z m).fine.no_future) there_put in
+          let known_put = instance_known S b.generics us i.many met vs (λ z m. (known_at us i.known z m).fine.scoped) (λ v q. scoped_in vs S.defs A.fits.bounds (t.Parameter v) q) b.type k (λ z m. (known_at us i.known z m).fine.no_future) there_put in
           let value : Value S A (with_arguments (zipped b.generics us) b.type) (at S.defs S.number (with_arguments (zipped b.generics us) b.type) (F.Name (found A.frame x).index)) =
           a_value S A (with_arguments (zipped b.generics us) b.type) known_put (F.Name (found A.frame x).index) (
             Generic b.generics (S.number b.type),

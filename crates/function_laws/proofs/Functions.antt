@@ -13,7 +13,7 @@ use Rattle.typed_tree.specs.declared.expression.Function.{Function}
 use Rattle.typed_tree.specs.declared.expression.Step.{roll-Step}
 use Rattle.typed_tree.specs.declared.expression.TypedExpression.{TypedExpression}
 use Rattle.typed_tree.specs.ActionTypes as typed
-use Rattle.typed_tree.specs.Instances.{IsAmong, MentionsOnly, types_in}
+use Rattle.typed_tree.specs.Instances.{MentionsOnly, types_in}
 use Rattle.typed_tree.specs.MemberTypes as member
 use Rattle.typed_tree.specs.OperationTypes.{Distinct}
 use Rattle.typed_tree.specs.Typing.{AreParameters, IsFunctionOf, NameOf, Declares, Typed, in_body, with_names}
@@ -44,9 +44,10 @@ use Rattle.desugaring.specs.Frames.{Unnamed, Frame, with_entries}
 use Rattle.desugaring.specs.Frames as frames
 use Rattle.desugaring.specs.Patterns.{patterns}
 use Rattle.desugaring_laws.specs.Known.{IsFine, IsKnown}
-use Rattle.desugaring_laws.specs.Laws.{wants, AreWrittenFine}
+use Rattle.desugaring_laws.specs.Laws.{wants}
 use Rattle.desugaring_laws.specs.Names.{bound_in_each, entered}
 use Rattle.desugaring_laws.specs.Written.{EachIsWritten}
+use Rattle.desugaring_laws.specs.Scopes.{IsScopeFine, AreBoundsIn}
 use Rattle.desugaring_laws.specs.Yields.{Yields}
 use Rattle.desugaring_laws.proofs.Graph.{each_among, in_scope}
 use Rattle.desugaring_laws.proofs.Yielding.{more, tests, by_case, part as after}
@@ -54,7 +55,7 @@ use Rattle.expression_laws.specs.Fitting.{Fits}
 use Rattle.expression_laws.specs.Results.{IsWantFine, Becomes, AreTyped}
 use Rattle.expression_laws.proofs.BoundNames.{names_bound_in_each}
 use Rattle.expression_laws.proofs.Calling.{one_result, parameters_known, results_scoped}
-use Rattle.expression_laws.proofs.Ending.{Setting, Place, Within, self, there, inside, value_of, as_wanted, Known, WantKnown, Is, Value, has, a_value}
+use Rattle.expression_laws.proofs.Ending.{Setting, Place, Within, self, there, inside, value_of, as_wanted, Known, WantKnown, Is, Value, has, a_value, written}
 use Rattle.expression_laws.proofs.Heads.{made_fine, function_head, listed_back}
 use Rattle.expression_laws.proofs.Leaving.{reads_or}
 use Rattle.expression_laws.proofs.Naming.{names_of, with_pattern}
@@ -100,7 +101,7 @@ module _ (S : Setting) where
   Inner f qs = frames.in_function (names_in_each qs) f
 
   module _ (e : Context) (f : Frame) (c : typed.Context) (outer : List Bytes) (fit : Fits S.defs S.slots S.terms S.number outer e f c) (gs : List ℕ) (s : TypeScope)
-      (written : AreWrittenFine S.defs S.terms (gs ++ c.parameters) s) (bounds : (v : ℕ) → IsAmong v (gs ++ c.parameters) → MentionsOnly (head S.defs) (gs ++ c.parameters) (t.Parameter v)) where
+      (types : IsScopeFine (gs ++ c.parameters) s) (bounds : AreBoundsIn (gs ++ c.parameters) S.defs) where
     abbrev vs : List ℕ
     vs = gs ++ c.parameters
 
@@ -111,12 +112,12 @@ module _ (S : Setting) where
     C ps r = in_body (signature_of S.defs S.slots S.terms S.number gs (map S.number ps.types) (S.number r)) (wants S.number (bound_in_each ps.patterns)) c
 
     -- what uses the parameters and these others fits in the body
-    pub body_fits : (qs : Patterns ℕ) (used : List Bytes) → Distinct (names_in_each qs) → Within (without (names_in_each qs) used) outer → (ps : Taken) → ParametersTyped S vs s written qs ps → (r : Term) → IsKnown S.defs S.terms vs r
+    pub body_fits : (qs : Patterns ℕ) (used : List Bytes) → Distinct (names_in_each qs) → Within (without (names_in_each qs) used) outer → (ps : Taken) → ParametersTyped S vs qs ps → (r : Term) → IsKnown S.defs S.terms vs r
         → Fits S.defs S.slots S.terms S.number used (E ps r) (Inner f ps.patterns) (C ps r)
     body_fits qs used distinct within ps i r k =
         let xs = bound_in_each ps.patterns in
         let same : names_of xs ≡ names_in_each qs = sym (names_bound_in_each ps.patterns) ∙ i.same in
-        let base = in_function_body S.defs S.slots S.terms S.number outer e f c gs s (map S.number ps.types) r fit written bounds k in
+        let base = in_function_body S.defs S.slots S.terms S.number outer e f c gs s (map S.number ps.types) r fit types bounds k in
         subst (λ x. Fits S.defs S.slots S.terms S.number used (rules.in_body Local (Some r) x (with_types s e)) (Inner f ps.patterns) (C ps r)) (sym i.scope_is)
         (subst (λ ns. Fits S.defs S.slots S.terms S.number used (rules.in_body Local (Some r) (entered xs []) (with_types s e)) (frames.in_function ns f) (C ps r)) (sym (names_bound_in_each ps.patterns))
         (with_pattern S.defs S.slots S.terms S.number used outer xs (λ x m. reach x (outside (names_in_each qs) used x m) same) (rules.in_body Local (Some r) [] (with_types s e)) (frames.in_function [] f)
@@ -127,7 +128,7 @@ module _ (S : Setting) where
         reach x (inr m) h = inr (within x m)
 
     -- a function whose body is typed
-    pub function_typed : (qs : Patterns ℕ) (g : Signature ℕ) (ps : Taken) → ParametersTyped S vs s written qs ps → (r : Term) → IsKnown S.defs S.terms vs r → AreParameters (head_at S.slots) c.parameters (map (λ n. S.number (t.Parameter n)) (places_of (scopes.names_of g.generics))) gs
+    pub function_typed : (qs : Patterns ℕ) (g : Signature ℕ) (ps : Taken) → ParametersTyped S vs qs ps → (r : Term) → IsKnown S.defs S.terms vs r → AreParameters (head_at S.slots) c.parameters (map (λ n. S.number (t.Parameter n)) (places_of (scopes.names_of g.generics))) gs
         → (b : Expression Note) → Typed S.slots (written_out S.defs S.number (Inner f ps.patterns) b) (C ps r) (Of (S.number r))
         → IsFunctionOf S.slots (function_of S.defs S.number sort.Local (signature g ps.patterns) (counts.in_patterns ps.patterns + counts.in_expression b) (λ inner. written_out S.defs S.number inner b) f) c
         (signature_of S.defs S.slots S.terms S.number gs (map S.number ps.types) (S.number r))
@@ -186,7 +187,7 @@ module _ (S : Setting) (A : Place S) where
     Ended ps r b = Yields S.defs S.terms (Has n w (t.Function (unlisted ps.types) r) (p.Function (signature g ps.patterns) b)) (Is S A w)
 
     abbrev Taking : Taken → Type 0
-    Taking ps = ParametersTyped S A.context.parameters A.known.types A.fits.written g.parameters ps
+    Taking ps = ParametersTyped S A.context.parameters g.parameters ps
 
     no_parameters : AreParameters (head_at S.slots) A.context.parameters (map (λ v. S.number (t.Parameter v)) (places_of (scopes.names_of g.generics))) []
     no_parameters = subst (λ gs. AreParameters (head_at S.slots) A.context.parameters (map (λ v. S.number (t.Parameter v)) (places_of (scopes.names_of gs))) []) (sym none) tt
@@ -199,12 +200,12 @@ module _ (S : Setting) (A : Place S) where
         let inner = frames.in_function (names_in_each ps.patterns) F' in
         let c = with_names (Of (S.number u) ∷ []) A.context in
         let e = rules.in_body Local (Some r) ps.scope Around in
-        let d = C S Around F' c A.used fit [] A.known.types A.fits.written A.fits.bounds ps r in
-        let inside_fits = body_fits S Around F' c A.used fit [] A.known.types A.fits.written A.fits.bounds g.parameters (occurring body) fine.distinct within ps i r kr in
+        let d = C S Around F' c A.used fit [] A.known.types A.fits.types A.fits.bounds ps r in
+        let inside_fits = body_fits S Around F' c A.used fit [] A.known.types A.fits.types A.fits.bounds g.parameters (occurring body) fine.distinct within ps i r kr in
         more S.defs S.terms (Judge S.defs e body (Some r)) (Becomes S.defs S.slots S.terms S.number Other [] inner d (Some r)) (Ended ps r) (j e inner d inside_fits (Some r) kr.fine) (λ b h.
         has S A n w u (p.Function (signature g ps.patterns) b) (λ l. refl) k (λ m.
         alone_value ps.types r (function_known ps.types i.types_known r kr m) (function_of S.defs S.number sort.Local (signature g ps.patterns) (counts.in_patterns ps.patterns + counts.in_expression b) (λ q. written_out S.defs S.number q b))
-        (function_typed S Around F' c A.used fit [] A.known.types A.fits.written A.fits.bounds g.parameters g ps i r kr no_parameters b (as_wanted S [] inner d r b h))))
+        (function_typed S Around F' c A.used fit [] A.known.types A.fits.types A.fits.bounds g.parameters g ps i r kr no_parameters b (as_wanted S [] inner d r b h))))
 
     -- with these types for parameters, and this one for a result, where none are written
     function_with : (us : List Term) → Each (Known S A) us → (v : Term) → Known S A v
@@ -213,7 +214,7 @@ module _ (S : Setting) (A : Place S) where
         Has n w (t.Function (unlisted ps.types) r) (p.Function (signature g ps.patterns) b)))))
         (Is S A w)
     function_with us ku v kv =
-        after S.defs S.terms (Parameters S.defs A.known.types g.parameters us) _ Taking (Is S A w) (parameters_typed S A.context.parameters A.known.types A.fits.written g.parameters fine.written us ku) (λ ps i.
+        after S.defs S.terms (Parameters S.defs A.known.types g.parameters us) _ Taking (Is S A w) (parameters_typed S A.context.parameters A.known.types (written S A) g.parameters fine.written us ku) (λ ps i.
         after S.defs S.terms (ReadsOr S.defs A.known.types g.result v) _ (Known S A) (Is S A w) (reads_or S A g.result v kv) (λ r kr.
         after S.defs S.terms (Judge S.defs (rules.in_body Local (Some r) ps.scope Around) body (Some r)) _ (Ended ps r) (Is S A w) (body_typed ps i r kr) (λ b h. h)))
 

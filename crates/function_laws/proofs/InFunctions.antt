@@ -6,7 +6,6 @@ use Rattle.mo_types.specs.declared.node.TypeId.{TypeId}
 use Rattle.mo_types.specs.Graph.{Slot}
 use Rattle.subtype_laws.specs.Reached.{Among}
 use Rattle.typed_tree.specs.ActionTypes as typed
-use Rattle.typed_tree.specs.Instances.{IsAmong, MentionsOnly}
 use Rattle.typed_tree.specs.Typing.{Signature, in_body, with_names}
 use Rattle.typed_tree.specs.Wants.{Want, Of, CellOf, FutureOf, Generic, in_function}
 use Rattle.typing_rules.specs.AbstractSyntax.{Bytes}
@@ -14,14 +13,12 @@ use Rattle.typing_rules.specs.AsyncPlaces.{Body, Local, calls}
 use Rattle.typing_rules.specs.Contexts.{Context, Bound, Label, value_named, with_types}
 use Rattle.typing_rules.specs.Contexts as rules
 use Rattle.typing_rules.specs.Definitions.{Definitions}
-use Rattle.typing_rules.specs.Heads.{head}
 use Rattle.typing_rules.specs.Terms.{Term}
-use Rattle.typing_rules.specs.Terms as t
 use Rattle.typing_rules.specs.TypeScopes.{TypeScope}
 use Rattle.desugaring.specs.Frames.{Unnamed, Frame, Use, with_entries, found, exit, is_returned, Returned}
 use Rattle.desugaring.specs.Frames as frames
 use Rattle.desugaring_laws.specs.Known.{IsKnown}
-use Rattle.desugaring_laws.specs.Laws.{AreWrittenFine}
+use Rattle.desugaring_laws.specs.Scopes.{IsScopeFine, AreBoundsIn}
 use Rattle.expression_laws.specs.Fitting.{StandsFor, AValue, ACell, AFuture, AGeneric, IsLabelled, IsReturned, Fits}
 use Rattle.expression_laws.proofs.Naming.{next, found_next}
 use Rattle.function_laws.proofs.Weakening.{among_behind, among_between, known_more}
@@ -53,7 +50,7 @@ module _ (defs : Definitions) (slots : List Slot) (terms : List Term) (number : 
     returns = λ u h. let i = fit.returns u h in record { known = i.known; left = i.left };
     options = fit.options;
     body_is = fit.body_is;
-    written = fit.written;
+    types = fit.types;
     bounds = fit.bounds;
   }
 
@@ -71,9 +68,9 @@ module _ (defs : Definitions) (slots : List Slot) (terms : List Term) (number : 
 
   -- in its body, before its parameters
   pub in_function_body : (used : List Bytes) (e : Context) (f : Frame) (c : typed.Context) (gs : List ℕ) (s : TypeScope) (ps : List TypeId) (r : Term) → Fits defs slots terms number used e f c
-      → AreWrittenFine defs terms (gs ++ c.parameters) s → ((v : ℕ) → IsAmong v (gs ++ c.parameters) → MentionsOnly (head defs) (gs ++ c.parameters) (t.Parameter v)) → IsKnown defs terms (gs ++ c.parameters) r
+      → IsScopeFine (gs ++ c.parameters) s → AreBoundsIn (gs ++ c.parameters) defs → IsKnown defs terms (gs ++ c.parameters) r
       → Fits defs slots terms number used (rules.in_body Local (Some r) [] (with_types s e)) (frames.in_function [] f) (in_body (signature_of gs ps (number r)) [] c)
-  in_function_body used e f c gs s ps r fit written bounds known = record {
+  in_function_body used e f c gs s ps r fit types bounds known = record {
     names = λ x m b h.
         let i = fit.names x m b h in
         (in_function i.0, got_mapped in_function c.names (found f x).index i.0 i.1, stands_inside c.parameters gs e.body b (found f x).cell i.0 i.2);
@@ -81,6 +78,6 @@ module _ (defs : Definitions) (slots : List Slot) (terms : List Term) (number : 
     returns = λ u h. record { known = subst (λ z. IsKnown defs terms (gs ++ c.parameters) z) (same_some r u h) known; left = ap (λ z. Some (number z)) (same_some r u h) };
     options = λ h. absurd (not_so h);
     body_is = refl;
-    written = written;
+    types = types;
     bounds = bounds;
   }

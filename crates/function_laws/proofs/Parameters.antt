@@ -32,7 +32,7 @@ use Rattle.desugaring_laws.proofs.Yielding.{given, by_case, part as after}
 use Rattle.expression_laws.proofs.BoundNames.{names_kept, both}
 use Rattle.expression_laws.proofs.Ending.{Setting, self}
 
-module _ (S : Setting) (vs : List ℕ) (s : TypeScope) (written : AreWrittenFine S.defs S.terms vs s) where
+module _ (S : Setting) (vs : List ℕ) where
   abbrev Known : Term → Type 0
   Known = IsKnown S.defs S.terms vs
 
@@ -55,15 +55,15 @@ module _ (S : Setting) (vs : List ℕ) (s : TypeScope) (written : AreWrittenFine
   others_known [] k = tt
   others_known (v ∷ us) k = k.1
 
-  pub parameters_typed : (qs : Patterns ℕ) → EachIsWritten qs → (us : List Term) → Each Known us → Yields S.defs S.terms (Parameters S.defs s qs us) (ParametersTyped qs)
-  parameters_typed p.Nil w us k = record { stand = refl; scope_is = refl; known = tt; types_known = tt; same = refl }
-  parameters_typed (p.Cons q rest) w us k =
+  pub parameters_typed : (s : TypeScope) → AreWrittenFine S.defs S.terms vs s → (qs : Patterns ℕ) → EachIsWritten qs → (us : List Term) → Each Known us → Yields S.defs S.terms (Parameters S.defs s qs us) (ParametersTyped qs)
+  parameters_typed s written p.Nil w us k = record { stand = refl; scope_is = refl; known = tt; types_known = tt; same = refl }
+  parameters_typed s written (p.Cons q rest) w us k =
       after S.defs S.terms (Case (annotation q) (λ a. Reads S.defs s a) (λ _. Given condition.NeedsType (pattern_place q) (first us) (λ u. Gives u))) _ Known (ParametersTyped (p.Cons q rest))
       (by_case S.defs S.terms (annotation q) _ _ Known (λ a e. written a) (λ e. given S.defs S.terms condition.NeedsType (pattern_place q) (first us) _ Known (λ u h. first_known us k u h))) (λ u ku.
       after S.defs S.terms (Stands S.defs s q u) _ (PatternIs q u) (ParametersTyped (p.Cons q rest))
       (both S.defs S.terms (Stands S.defs s q u) (λ b. PatternTyped S.defs S.slots S.terms S.number vs u b.0 b.1) (λ b. names_in b.1 ≡ names_in q)
       (patterns_are_typed S.defs S.slots S.terms S.number S.graph S.units vs s written q w.0 u ku) (names_kept S.defs S.terms s q u)) (λ b i.
-      after S.defs S.terms (Parameters S.defs s rest (others us)) _ (ParametersTyped rest) (ParametersTyped (p.Cons q rest)) (parameters_typed rest w.1 (others us) (others_known us k)) (λ c j. record {
+      after S.defs S.terms (Parameters S.defs s rest (others us)) _ (ParametersTyped rest) (ParametersTyped (p.Cons q rest)) (parameters_typed s written rest w.1 (others us) (others_known us k)) (λ c j. record {
         stand = (
           wants S.number (bound_names b.1),
           wants S.number (bound_in_each c.patterns),

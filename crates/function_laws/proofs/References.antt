@@ -26,7 +26,7 @@ use Rattle.desugaring.specs.PrincipalBytes.{principal_bytes}
 use Rattle.desugaring_laws.specs.Yields.{Yields}
 use Rattle.desugaring_laws.proofs.HeadForms.{is_actor}
 use Rattle.desugaring_laws.proofs.Yielding.{tests, part as after}
-use Rattle.expression_laws.proofs.Ending.{Setting, Place, self, there, Known, WantKnown, Is, has, a_value}
+use Rattle.expression_laws.proofs.Ending.{Setting, Place, self, there, Known, WantKnown, Is, has, a_value, written}
 use Rattle.function_laws.proofs.ReferenceBytes.{few_bytes}
 
 some_is : {A : Type 0} (o : Option A) → is_some o ≡ true → (a : A) × (o ≡ Some a)
@@ -38,7 +38,7 @@ module _ (S : Setting) (A : Place S) where
   pub reference_typed : (n m : ℕ) (x : Bytes) (u : TypeNode) (w : Option Term) → WantKnown S A w
       → Yields S.defs S.terms (Rule S.defs A.around (directly Other A.known) n (p.Annotated (p.exp m (p.ActorReference x)) u) w) (Is S A w)
   reference_typed n m x u w k =
-      after S.defs S.terms (Reads S.defs A.known.types u) _ (Known S A) (Is S A w) (A.fits.written u) (λ v kv.
+      after S.defs S.terms (Reads S.defs A.known.types u) _ (Known S A) (Is S A w) (written S A u) (λ v kv.
       tests S.defs S.terms condition.NotActor n (is_some (actor_of (head S.defs v))) _ (Is S A w) (λ is.
       (λ h.
         let fs = some_is (actor_of (head S.defs v)) is in
