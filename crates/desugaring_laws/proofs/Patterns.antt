@@ -23,7 +23,7 @@ use Rattle.typed_tree.specs.declared.pattern.PatternForm.{PatternForm}
 use Rattle.typed_tree.specs.declared.pattern.PatternForm.TheOpen as P
 use Rattle.typed_tree.specs.declared.pattern.PatternField.{PatternField}
 use Rattle.typed_tree.specs.declared.pattern.TypedPattern.{TypedPattern}
-use Rattle.typed_tree.specs.Instances.{types_in, ParameterAmong, Mentions, MentionsOnly}
+use Rattle.typed_tree.specs.Instances.{types_in, ParameterAmong, Mentions}
 use Rattle.typed_tree.specs.PatternTypes.{LiteralOf}
 use Rattle.typed_tree.specs.PatternTypes as typed
 use Rattle.typed_tree.specs.TypingLaws.{form_standing}

@@ -1,34 +1,26 @@
 -- Types that are written in a scope whose type parameters are these.
-use Rattle.std.proofs.Common.{◌≡◌, ◌⊎◌, inl, inr, ℕ, zero, suc, Bool, true, false, List, [], ◌∷◌, ◌++◌, map, Option, Some, None, refl, sym, ap, ◌∙◌, subst}
+use Rattle.std.proofs.Common.{◌≡◌, ℕ, zero, suc, Bool, true, false, List, [], ◌∷◌, ◌++◌, map, Option, Some, None, refl, sym, ap, subst}
 use Rattle.std.specs.Prelude.{cond, nat_eq}
-use Rattle.std.specs.Str.{bytes_eq}
-use Rattle.mo_num.specs.declared.kind.Kind.TheVariants as kind
 use Rattle.mo_scopes.specs.declared.library.BuiltInType.{BuiltInType}
 use Rattle.mo_scopes.specs.declared.library.BuiltInType.TheVariants as built_in
 use Rattle.mo_scopes.specs.Scopes.{built_in_types, named}
 use Rattle.mo_syntax.specs.declared.types.Sharing.TheVariants as sharing
-use Rattle.mo_types.specs.declared.node.Field.{Field}
-use Rattle.mo_types.specs.declared.node.Node.{Node}
-use Rattle.mo_types.specs.declared.node.Node.TheVariants as node
-use Rattle.mo_types.specs.declared.node.Sort.{Sort}
-use Rattle.mo_types.specs.declared.node.Sort.TheVariants as sort
 use Rattle.mo_types.specs.Heads.{async_of}
 use Rattle.mo_types.specs.Sub.{Each}
 use Rattle.typed_tree.specs.Instances.{IsAmong, field_types, types_in, ParameterAmong, Mentions, MentionsOnly}
 use Rattle.typing_rules.specs.AbstractSyntax.{Bytes, Named, TypeNode, TypeNodes, TypeFields}
 use Rattle.typing_rules.specs.AbstractSyntax as p
-use Rattle.typing_rules.specs.Definitions.{Definitions, bound_at, definition_at, at_reached, found_of, parameters_of, followed, each_followed, reached, or_bottom, unfolded}
+use Rattle.typing_rules.specs.Definitions.{Definitions, definition_at, at_reached, found_of, parameters_of, followed, each_followed, reached, or_bottom, unfolded}
 use Rattle.typing_rules.specs.Heads.{results, shape, head}
-use Rattle.typing_rules.specs.Judgements.{Judgement, Part}
 use Rattle.typing_rules.specs.Terms.{Term, Terms, Fields, listed, unlisted, listed_fields, put_in, each_put_in, fields_put_in, argument_of}
 use Rattle.typing_rules.specs.Terms as t
-use Rattle.typing_rules.specs.Types.{Proper, EachProper, FieldsProper, MethodsProper, Reads, AllShareable}
-use Rattle.typing_rules.specs.TypeScopes.{TypeName, IsParameter, IsDefinition, TypeScope, type_named, built_in_type, built_in_term, use_term, term, terms, field_terms}
+use Rattle.typing_rules.specs.Types.{Proper, EachProper}
+use Rattle.typing_rules.specs.TypeScopes.{TypeName, IsParameter, IsDefinition, TypeScope, type_named, built_in_term, use_term, term, terms, field_terms}
 use Rattle.desugaring_laws.specs.Known.{IsKnown}
 use Rattle.desugaring_laws.specs.Laws.{AreWrittenFine}
-use Rattle.desugaring_laws.specs.Scopes.{IsIn, AreIn, FieldsAreIn, IsNameIn, IsScopeFine, AreBoundsIn, HasNoFutures}
+use Rattle.desugaring_laws.specs.Scopes.{IsIn, AreIn, FieldsAreIn, IsScopeFine, AreBoundsIn, HasNoFutures}
 use Rattle.desugaring_laws.specs.Yields.{Yields}
-use Rattle.desugaring_laws.proofs.Yielding.{anything, more, given, tests, part as after}
+use Rattle.desugaring_laws.proofs.Yielding.{anything, more, tests, part as after}
 
 module _ (vs : List ℕ) where
   -- ---- types put in

@@ -1,22 +1,16 @@
 -- Annotations.
-use Rattle.std.proofs.Common.{◌≡◌, ℕ, List, [], ◌∷◌, Option, Some, None, refl, sym, ◌∙◌}
-use Rattle.std.specs.Prelude.{is_some}
-use Rattle.mo_types.specs.declared.node.Node.TheVariants as node
-use Rattle.mo_types.specs.Heads.{actor_of}
+use Rattle.std.proofs.Common.{◌≡◌, ℕ, [], Option, Some, None, refl, sym, ◌∙◌}
 use Rattle.typed_tree.specs.declared.expression.Form.TheOpen as F
-use Rattle.typing_rules.specs.declared.condition.Condition.TheVariants as condition
 use Rattle.typing_rules.specs.AbstractSyntax.{Bytes, Expression, TypeNode}
 use Rattle.typing_rules.specs.AbstractSyntax as p
 use Rattle.typing_rules.specs.AsyncPlaces.{Other}
 use Rattle.typing_rules.specs.Contexts.{directly}
-use Rattle.typing_rules.specs.Expressions.{Judge, Rule, actor_text}
-use Rattle.typing_rules.specs.Heads.{head}
+use Rattle.typing_rules.specs.Expressions.{Rule, actor_text}
 use Rattle.typing_rules.specs.Terms.{Term}
-use Rattle.typing_rules.specs.TypedTrees.{type_of}
 use Rattle.typing_rules.specs.Types.{Reads}
 use Rattle.desugaring_laws.specs.Yields.{Yields}
-use Rattle.desugaring_laws.proofs.Yielding.{given, tests, by_case, part as after}
-use Rattle.expression_laws.proofs.Ending.{Setting, Place, self, there, value_of, as_wanted, Known, WantKnown, Is, IsPart, IsTypedPart, Tree, Value, judged, has, a_value, written}
+use Rattle.desugaring_laws.proofs.Yielding.{by_case, part as after}
+use Rattle.expression_laws.proofs.Ending.{Setting, Place, as_wanted, Known, WantKnown, Is, IsTypedPart, Tree, judged, has, a_value, written}
 
 module _ (S : Setting) (A : Place S) where
   pub annotated_typed : (at : ℕ) (a : Expression ℕ) (u : TypeNode) → IsTypedPart S A a → actor_text a ≡ None → (w : Option Term) → WantKnown S A w

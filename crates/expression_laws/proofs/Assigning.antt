@@ -1,16 +1,13 @@
 -- Places and assignments.
-use Rattle.std.proofs.Common.{◌≡◌, inl, inr, ℕ, Bool, true, false, List, [], ◌∷◌, ◌++◌, map, Option, Some, None, refl, sym, ap, ◌∙◌, subst}
+use Rattle.std.proofs.Common.{◌≡◌, inl, ℕ, true, false, List, [], ◌∷◌, Option, Some, None, refl, sym, ap, ◌∙◌}
 use Rattle.std.specs.Prelude.{slice_get}
-use Rattle.mo_scopes.specs.Scopes.{named}
 use Rattle.mo_num.specs.declared.kind.Kind.TheVariants as kind
 use Rattle.mo_types.specs.declared.node.Field.{Field}
 use Rattle.mo_types.specs.declared.node.Node.{Node}
 use Rattle.mo_types.specs.declared.node.Node.TheVariants as node
 use Rattle.mo_types.specs.declared.node.TypeId.{TypeId}
-use Rattle.mo_types.specs.Graph.{head_at}
-use Rattle.mo_types.specs.Heads.{object_of, mut_array_of}
+use Rattle.mo_types.specs.Heads.{mut_array_of}
 use Rattle.mo_types.specs.Sub.{find}
-use Rattle.mo_values.specs.declared.operation.Operation.TheVariants as op
 use Rattle.subtype_laws.specs.Reached.{Among}
 use Rattle.typed_tree.specs.declared.action.Action.TheVariants as action
 use Rattle.typed_tree.specs.declared.expression.Form.TheOpen as F
@@ -29,16 +26,14 @@ use Rattle.typing_rules.specs.Terms.{Term, nat, unit}
 use Rattle.typing_rules.specs.TypedTrees.{Note, note, type_of}
 use Rattle.desugaring.specs.Expressions.{cell_tree, assigned}
 use Rattle.desugaring.specs.Frames.{found}
-use Rattle.desugaring.specs.FreeNames.{occurring}
 use Rattle.desugaring.specs.Nodes.{acts as acting}
 use Rattle.desugaring_laws.specs.Yields.{Yields}
-use Rattle.desugaring_laws.proofs.HeadForms.{is_object, is_mutable_array}
+use Rattle.desugaring_laws.proofs.HeadForms.{is_mutable_array}
 use Rattle.desugaring_laws.proofs.Patterns.{find_among}
 use Rattle.desugaring_laws.proofs.Yielding.{given, tests, by_case, part as after}
 use Rattle.expression_laws.specs.Fitting.{StandsFor, AValue, ACell, AFuture, AGeneric}
-use Rattle.expression_laws.specs.Results.{AreTyped}
-use Rattle.expression_laws.proofs.Ending.{Setting, Place, Within, self, there, inside, value_of, as_wanted, Known, WantKnown, Is, IsPart, IsTypedPart, Tree, Value, judged, wanting, has, acts}
-use Rattle.expression_laws.proofs.Heads.{number_head, number_fine}
+use Rattle.expression_laws.proofs.Ending.{Setting, Place, there, inside, value_of, as_wanted, Known, WantKnown, Is, IsTypedPart, Tree, Value, judged, wanting, has, acts}
+use Rattle.expression_laws.proofs.Heads.{number_fine}
 use Rattle.expression_laws.proofs.Parts.{field_cell, element_cell, nat_there}
 use Rattle.expression_laws.proofs.Promoting.{promotes}
 use Rattle.expression_laws.proofs.Simple.{unit_there, unit_known}

@@ -1,20 +1,11 @@
 -- The rules of binary operators, negation and `op=`.
-use Rattle.std.proofs.Common.{◌≡◌, ◌⊎◌, inl, inr, ℕ, Bool, true, false, List, [], ◌∷◌, Option, Some, None, refl, sym, ap, ◌∙◌, subst}
-use Rattle.std.specs.Prelude.{pos, neg_ℤ, ℤ}
-use Rattle.std.specs.Option.{option_and_then}
-use Rattle.mo_num.specs.declared.kind.Kind.{Kind}
-use Rattle.mo_num.specs.declared.kind.Kind.TheVariants as kind
+use Rattle.std.proofs.Common.{◌≡◌, ℕ, Bool, true, false, [], ◌∷◌, Option, Some, refl, sym, subst}
 use Rattle.mo_syntax.specs.declared.operators.BinaryOperator.{BinaryOperator}
 use Rattle.mo_syntax.specs.declared.operators.BinaryOperator.TheVariants as sign
-use Rattle.mo_types.specs.declared.node.Node.{Node}
 use Rattle.mo_types.specs.declared.node.Node.TheVariants as node
-use Rattle.mo_types.specs.declared.node.TypeId.{TypeId}
 use Rattle.mo_types.specs.Graph.{head_at}
-use Rattle.mo_types.specs.Heads.{number_of}
-use Rattle.mo_types.specs.Sub.{IsSubtype}
 use Rattle.mo_values.specs.declared.operation.Operation.TheVariants as op
 use Rattle.subtype_laws.specs.Reached.{Among}
-use Rattle.typed_tree.specs.declared.action.Action.TheVariants as action
 use Rattle.typed_tree.specs.declared.literal.Literal.TheVariants as literal
 use Rattle.typed_tree.specs.declared.expression.Form.TheOpen as F
 use Rattle.typed_tree.specs.declared.expression.TypedExpression.{TypedExpression}
@@ -22,7 +13,7 @@ use Rattle.mo_types.specs.declared.datum.Datum.TheVariants as part
 use Rattle.mo_types.specs.Values.{IsPartOf}
 use Rattle.typed_tree.specs.OperationTypes.{OperationTyped}
 use Rattle.typed_tree.specs.Typing.{Typed}
-use Rattle.typed_tree.specs.Wants.{Of, CellOf, Below}
+use Rattle.typed_tree.specs.Wants.{Of, Below}
 use Rattle.typing_rules.specs.declared.condition.Condition.TheVariants as condition
 use Rattle.typing_rules.specs.AbstractSyntax.{Expression}
 use Rattle.typing_rules.specs.AbstractSyntax as p
@@ -43,14 +34,13 @@ use Rattle.desugaring.specs.Expressions.{cell_tree}
 use Rattle.desugaring_laws.specs.Known.{IsFine}
 use Rattle.desugaring_laws.specs.Yields.{Yields}
 use Rattle.desugaring_laws.proofs.Graph.{below_number}
-use Rattle.desugaring_laws.proofs.Yielding.{more, given, tests, if_so, by_case, part as after}
-use Rattle.expression_laws.specs.Results.{AreTyped}
+use Rattle.desugaring_laws.proofs.Yielding.{more, given, part as after}
 use Rattle.expression_laws.proofs.Assigning.{IsPlace, PlaceParts, place_typed}
-use Rattle.expression_laws.proofs.Ending.{Setting, Place, self, there, value_of, as_wanted, Known, WantKnown, Is, IsPart, IsTypedPart, part_fits, Tree, Value, Made, has, fits, a_value, acts}
-use Rattle.expression_laws.proofs.Heads.{boolean_fine, text_head, text_fine, number_fine}
+use Rattle.expression_laws.proofs.Ending.{Setting, Place, self, there, as_wanted, Known, WantKnown, Is, IsPart, IsTypedPart, part_fits, Tree, Value, has, a_value}
+use Rattle.expression_laws.proofs.Heads.{boolean_fine, text_head, text_fine}
 use Rattle.expression_laws.proofs.Operands.{IsJudged, arithmetic, equality, ordering}
-use Rattle.expression_laws.proofs.Operating.{StandsOn, alike_value, binary_value, operation_at}
-use Rattle.expression_laws.proofs.Simple.{boolean_there, boolean_known, unit_there, unit_known}
+use Rattle.expression_laws.proofs.Operating.{alike_value, operation_at}
+use Rattle.expression_laws.proofs.Simple.{boolean_there, unit_there, unit_known}
 
 module _ (S : Setting) (A : Place S) where
   text_at : Among t.Text S.terms → head_at S.slots (S.number t.Text) ≡ node.Text

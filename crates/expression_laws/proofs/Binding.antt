@@ -1,13 +1,10 @@
 -- Forms with patterns: `switch`, `try`, `for`.
-use Rattle.std.proofs.Common.{◌≡◌, ◌≢◌, ◌⊎◌, inl, inr, ℕ, Bool, true, false, List, [], ◌∷◌, ◌++◌, map, Option, Some, None, refl, sym, ap, ◌∙◌, subst}
+use Rattle.std.proofs.Common.{◌≡◌, ◌⊎◌, inl, inr, ℕ, List, [], ◌∷◌, Option, Some, None, refl, sym, ◌∙◌, subst}
 use Rattle.mo_types.specs.declared.node.Node.TheVariants as node
-use Rattle.mo_types.specs.declared.node.TypeId.{TypeId}
-use Rattle.mo_types.specs.Graph.{head_at}
 use Rattle.mo_types.specs.Sub.{IsSubtype}
 use Rattle.subtype_laws.specs.Reached.{Among}
-use Rattle.typed_tree.specs.declared.expression.Case.{Case, roll-Case}
+use Rattle.typed_tree.specs.declared.expression.Case.{roll-Case}
 use Rattle.typed_tree.specs.declared.expression.Form.TheOpen as F
-use Rattle.typed_tree.specs.declared.expression.TypedExpression.{TypedExpression}
 use Rattle.typed_tree.specs.ActionTypes as typed
 use Rattle.typed_tree.specs.OperationTypes.{Distinct}
 use Rattle.typed_tree.specs.PatternTypes as stand
@@ -27,21 +24,20 @@ use Rattle.typing_rules.specs.TypedTrees.{Note, type_of, case_types}
 use Rattle.desugaring.specs.Expressions.{tree as written_out, case_trees}
 use Rattle.desugaring.specs.Frames.{Frame}
 use Rattle.desugaring.specs.Frames as frames
-use Rattle.desugaring.specs.FreeNames.{names_in, without, occurring, in_cases}
+use Rattle.desugaring.specs.FreeNames.{names_in, without, occurring}
 use Rattle.desugaring.specs.Patterns.{pattern}
-use Rattle.desugaring_laws.specs.Known.{IsKnown}
 use Rattle.desugaring_laws.specs.Laws.{wants, PatternTyped}
 use Rattle.desugaring_laws.specs.Names.{bound_names, entered}
 use Rattle.desugaring_laws.specs.Yields.{Yields}
 use Rattle.desugaring_laws.proofs.Graph.{below_number}
 use Rattle.desugaring_laws.proofs.Patterns.{patterns_are_typed}
-use Rattle.desugaring_laws.proofs.Yielding.{more, given, tests, part as after}
+use Rattle.desugaring_laws.proofs.Yielding.{more, tests, part as after}
 use Rattle.expression_laws.specs.Fitting.{Fits}
 use Rattle.expression_laws.specs.Laws.{IsPatternFine}
 use Rattle.expression_laws.specs.Results.{IsWantFine, Becomes, AreTyped}
 use Rattle.expression_laws.proofs.BoundNames.{names_bound, names_kept, both}
 use Rattle.expression_laws.proofs.Choices.{branches, two_known, at_whole, above_branch}
-use Rattle.expression_laws.proofs.Ending.{Setting, Place, Within, self, there, value_of, as_wanted, as_given, Known, WantKnown, Is, IsPart, IsTypedPart, Tree, Value, Made, judged, has, a_value, written}
+use Rattle.expression_laws.proofs.Ending.{Setting, Place, Within, self, there, value_of, as_wanted, as_given, Known, WantKnown, Is, IsTypedPart, Tree, judged, a_value, written}
 use Rattle.expression_laws.proofs.Heads.{error_head, error_fine}
 use Rattle.expression_laws.proofs.Naming.{names_of, with_pattern}
 use Rattle.expression_laws.proofs.Outside.{outside}

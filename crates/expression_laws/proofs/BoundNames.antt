@@ -1,5 +1,5 @@
 -- The names of a pattern, before and after it is judged.
-use Rattle.std.proofs.Common.{◌≡◌, ℕ, Bool, true, false, List, [], ◌∷◌, ◌++◌, map, Option, Some, None, refl, sym, ap, ap₂, ◌∙◌, subst}
+use Rattle.std.proofs.Common.{◌≡◌, ℕ, true, false, List, [], ◌∷◌, ◌++◌, refl, sym, ap₂, ◌∙◌}
 use Rattle.typing_rules.specs.AbstractSyntax.{Bytes, Pattern, Patterns, PatternFields}
 use Rattle.typing_rules.specs.AbstractSyntax as p
 use Rattle.mo_types.specs.declared.node.Field.{Field}
@@ -16,7 +16,7 @@ use Rattle.typing_rules.specs.TypedTrees.{Note}
 use Rattle.typing_rules.specs.TypeScopes.{TypeScope}
 use Rattle.typing_rules.specs.Types.{Reads}
 use Rattle.desugaring.specs.FreeNames.{names_in, names_in_each, names_in_fields}
-use Rattle.desugaring_laws.specs.Names.{Names, bound_names, bound_in_each, bound_in_fields}
+use Rattle.desugaring_laws.specs.Names.{bound_names, bound_in_each, bound_in_fields}
 use Rattle.desugaring_laws.specs.Yields.{Yields}
 use Rattle.desugaring_laws.proofs.Patterns.{map_append}
 use Rattle.desugaring_laws.proofs.Yielding.{anything, given, tests, part as after}

@@ -1,11 +1,10 @@
 -- Built-in functions without type parameters.
-use Rattle.std.proofs.Common.{◌≡◌, inl, inr, ℕ, Bool, true, false, List, [], ◌∷◌, ◌++◌, map, Option, Some, None, refl, sym, ap, ◌∙◌, subst}
+use Rattle.std.proofs.Common.{◌≡◌, inl, inr, ℕ, true, false, List, [], ◌∷◌, map, refl, sym, subst}
 use Rattle.std.specs.Prelude.{codes}
 use Rattle.mo_num.specs.declared.kind.Kind.TheVariants as kind
 use Rattle.mo_scopes.specs.declared.library.Member.{Member}
 use Rattle.mo_scopes.specs.declared.library.Member.TheVariants as library
 use Rattle.mo_types.specs.declared.node.Field.{Field}
-use Rattle.mo_types.specs.declared.node.Node.{Node}
 use Rattle.mo_types.specs.declared.node.Node.TheVariants as node
 use Rattle.mo_types.specs.declared.node.Sort.TheVariants as sort
 use Rattle.mo_types.specs.declared.node.TypeId.{TypeId}
@@ -27,7 +26,7 @@ use Rattle.desugaring_laws.proofs.Patterns.{unit_fine}
 use Rattle.expression_laws.proofs.Ending.{Setting, Place, there, inside, Known, Value, acts}
 use Rattle.expression_laws.proofs.Heads.{number_head, number_fine, object_head, variant_head, text_head, text_fine, error_head, error_fine, bottom_head, bottom_fine, made_fine}
 use Rattle.expression_laws.proofs.Members.{function_at, function_there, function_fine}
-use Rattle.expression_laws.proofs.Simple.{unit_there, unit_known, only}
+use Rattle.expression_laws.proofs.Simple.{unit_there, only}
 
 module _ (S : Setting) (A : Place S) where
   abbrev vs : List ℕ

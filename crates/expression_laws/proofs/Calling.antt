@@ -1,11 +1,9 @@
 -- Calls of functions.
-use Rattle.std.proofs.Common.{◌≡◌, ◌≢◌, ◌⊎◌, inl, inr, ℕ, suc, Bool, true, false, List, [], ◌∷◌, ◌++◌, length, map, Option, Some, None, refl, sym, ap, ◌∙◌, subst, arith}
+use Rattle.std.proofs.Common.{◌≡◌, ◌≢◌, ◌⊎◌, inl, inr, ℕ, List, [], ◌∷◌, ◌++◌, length, map, Option, refl, sym, ap, ◌∙◌, subst, arith}
 use Rattle.std.specs.Prelude.{is_some, nat_eq}
-use Rattle.mo_types.specs.declared.node.Node.{Node}
 use Rattle.mo_types.specs.declared.node.Node.TheVariants as node
 use Rattle.mo_types.specs.declared.node.Sort.{Sort}
 use Rattle.mo_types.specs.declared.node.Sort.TheVariants as sort
-use Rattle.mo_types.specs.declared.node.TypeId.{TypeId}
 use Rattle.mo_types.specs.Graph.{head_at}
 use Rattle.mo_types.specs.Heads.{async_of, func_of}
 use Rattle.subtype_laws.specs.Reached.{Among}
@@ -16,33 +14,32 @@ use Rattle.typed_tree.specs.ActionTypes.{ResultOf, of_each}
 use Rattle.typed_tree.specs.Instances.{types_in}
 use Rattle.typed_tree.specs.Types.{IsLawfulNode}
 use Rattle.typed_tree.specs.Typing.{EachGives, Typed}
-use Rattle.typed_tree.specs.Wants.{Want, Of, FutureOf}
+use Rattle.typed_tree.specs.Wants.{Of}
 use Rattle.typing_rules.specs.declared.condition.Condition.TheVariants as condition
 use Rattle.typing_rules.specs.AbstractSyntax.{Expression, Expressions}
 use Rattle.typing_rules.specs.AbstractSyntax as p
-use Rattle.typing_rules.specs.AsyncPlaces.{Other, takes_call, calls, FuturePlaced}
+use Rattle.typing_rules.specs.AsyncPlaces.{Other, takes_call, FuturePlaced}
 use Rattle.typing_rules.specs.Calls.{called}
 use Rattle.typing_rules.specs.Contexts.{directly}
 use Rattle.typing_rules.specs.Ends.{Has}
 use Rattle.typing_rules.specs.Expressions.{JudgeEach, some_each}
 use Rattle.typing_rules.specs.Heads.{head, members_head, result}
-use Rattle.typing_rules.specs.Judgements.{Judgement, Part, Given, Tests}
+use Rattle.typing_rules.specs.Judgements.{Part, Given, Tests}
 use Rattle.typing_rules.specs.Terms.{Term, unlisted}
 use Rattle.typing_rules.specs.Terms as t
 use Rattle.typing_rules.specs.TypedTrees.{Note, note, type_of, count}
-use Rattle.desugaring.specs.Expressions.{call_of, trees}
+use Rattle.desugaring.specs.Expressions.{call_of}
 use Rattle.desugaring.specs.Nodes as nodes
-use Rattle.desugaring_laws.specs.Known.{IsFine, IsKnown}
 use Rattle.desugaring_laws.specs.Yields.{Yields}
 use Rattle.desugaring_laws.proofs.Graph.{parts_there}
 use Rattle.desugaring_laws.proofs.HeadForms.{is_function}
 use Rattle.desugaring_laws.proofs.Yielding.{given, tests, part as after}
 use Rattle.expression_laws.specs.Results.{TakesFuture, Gives}
-use Rattle.expression_laws.proofs.Ending.{Setting, Place, self, there, inside, Known, WantKnown, Is, Tree, Value, plain, has_so, acts}
+use Rattle.expression_laws.proofs.Ending.{Setting, Place, there, inside, Known, WantKnown, Is, Tree, Value, plain, has_so, acts}
 use Rattle.expression_laws.proofs.Futures.{IsPlaced, placed, takes_call_is, calls_shared, future_node}
 use Rattle.expression_laws.proofs.Heads.{async_head, made_fine, tuple_head, listed_back}
 use Rattle.expression_laws.proofs.Listed.{EachTyping, EachWanted, each_wanted, Trees, same_number, map_twice}
-use Rattle.expression_laws.proofs.Promoting.{Promoted, promotes}
+use Rattle.expression_laws.proofs.Promoting.{promotes}
 
 one_length : {X Y : Type 0} (f : X → Y) (xs : List X) → length (map f xs) ≡ 1 → (x : X) × (xs ≡ x ∷ [])
 one_length f [] e = cc

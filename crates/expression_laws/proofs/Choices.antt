@@ -1,6 +1,5 @@
 -- Choices: what the branches give, where a type is wanted and where none is.
-use Rattle.std.proofs.Common.{◌≡◌, inl, inr, ℕ, List, [], ◌∷◌, map, Option, Some, None, refl, subst}
-use Rattle.mo_types.specs.Graph.{head_at}
+use Rattle.std.proofs.Common.{◌≡◌, inl, inr, ℕ, List, [], ◌∷◌, Option, Some, None, refl, subst}
 use Rattle.mo_types.specs.Sub.{IsSubtype}
 use Rattle.subtype_laws.specs.Reached.{Among}
 use Rattle.typed_tree.specs.declared.expression.Form.TheOpen as F

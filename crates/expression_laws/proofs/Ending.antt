@@ -1,5 +1,5 @@
 -- Where an expression is judged, how its parts are used, and how rules end.
-use Rattle.std.proofs.Common.{◌≡◌, inl, inr, ℕ, List, [], ◌∷◌, map, Option, Some, None, true, false, refl, sym, ap, ◌∙◌, subst}
+use Rattle.std.proofs.Common.{◌≡◌, inl, inr, ℕ, List, [], ◌∷◌, Option, Some, None, refl, sym, subst}
 use Rattle.mo_types.specs.declared.node.Node.{Node}
 use Rattle.mo_types.specs.declared.node.TypeId.{TypeId}
 use Rattle.mo_types.specs.Graph.{Slot, head_at}
@@ -39,7 +39,7 @@ use Rattle.desugaring_laws.proofs.Graph.{reflexive, transitive, below_number, pa
 use Rattle.desugaring_laws.proofs.Scoping.{written_fine}
 use Rattle.desugaring_laws.proofs.Yielding.{part as after}
 use Rattle.expression_laws.specs.Fitting.{Fits}
-use Rattle.expression_laws.specs.Results.{IsWantFine, TakesFuture, standing, IsBelowWanted, GivesValue, GivesFuture, Gives, Becomes, AreTyped}
+use Rattle.expression_laws.specs.Results.{IsWantFine, TakesFuture, standing, GivesValue, Gives, Becomes, AreTyped}
 use Rattle.expression_laws.proofs.Trees.{node, scope_of, value_node, cell_node}
 
 -- types of a program, and the graph of those that are met

@@ -1,5 +1,5 @@
 -- What can be left, where one thing more stands around.
-use Rattle.std.proofs.Common.{◌≡◌, ℕ, zero, suc, Bool, true, false, List, [], ◌∷◌, Option, Some, None, refl, sym, ap, ◌∙◌, subst}
+use Rattle.std.proofs.Common.{◌≡◌, ℕ, zero, suc, Bool, true, false, List, [], ◌∷◌, Option, Some, refl, sym, ap, ◌∙◌, subst}
 use Rattle.std.specs.Prelude.{cond, slice_get}
 use Rattle.std.specs.Str.{bytes_eq}
 use Rattle.mo_scopes.specs.Scopes.{named}
@@ -10,7 +10,7 @@ use Rattle.mo_types.specs.Sub.{IsSomething}
 use Rattle.typed_tree.specs.ActionTypes as typed
 use Rattle.typed_tree.specs.Typing.{with_label}
 use Rattle.typing_rules.specs.AbstractSyntax.{Bytes}
-use Rattle.typing_rules.specs.AsyncPlaces.{Around, Labelled}
+use Rattle.typing_rules.specs.AsyncPlaces.{Labelled}
 use Rattle.typing_rules.specs.Contexts.{Context, Label, directly, first_loops, in_loop, in_option}
 use Rattle.typing_rules.specs.Contexts as rules
 use Rattle.typing_rules.specs.Definitions.{Definitions}

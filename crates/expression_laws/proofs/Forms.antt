@@ -1,25 +1,17 @@
 -- Each form whose parts are typed.
-use Rattle.std.proofs.Common.{◌≡◌, inl, inr, ℕ, Bool, true, false, List, [], ◌∷◌, ◌++◌, Option, Some, None, refl, subst}
-use Rattle.mo_types.specs.declared.node.TypeId.{TypeId}
-use Rattle.mo_types.specs.Graph.{Slot}
-use Rattle.subtype_laws.specs.Reached.{Among}
-use Rattle.typed_tree.specs.ActionTypes as typed
+use Rattle.std.proofs.Common.{inl, inr, ℕ, true, false, List, [], ◌∷◌, ◌++◌, Option, Some, None, refl}
 use Rattle.typing_rules.specs.AbstractSyntax.{Bytes, Expression, Form, Expressions, Cases, ObjectFields}
 use Rattle.typing_rules.specs.AbstractSyntax as p
 use Rattle.typing_rules.specs.AsyncPlaces.{Other}
 use Rattle.typing_rules.specs.Calls.{built_in}
-use Rattle.typing_rules.specs.Contexts.{Context, directly}
-use Rattle.typing_rules.specs.Definitions.{Definitions}
+use Rattle.typing_rules.specs.Contexts.{directly}
 use Rattle.typing_rules.specs.Expressions.{Judge, Rule}
 use Rattle.typing_rules.specs.Members.{member_bound}
 use Rattle.typing_rules.specs.Patterns.{is_empty}
-use Rattle.typing_rules.specs.Terms.{Term, unit}
-use Rattle.desugaring.specs.Frames.{Frame}
+use Rattle.typing_rules.specs.Terms.{Term}
 use Rattle.desugaring.specs.FreeNames.{occurring, in_each, in_cases, in_fields, names_in, without}
-use Rattle.desugaring_laws.specs.GraphOf.{IsGraphOf}
 use Rattle.desugaring_laws.specs.Yields.{Yields}
 use Rattle.desugaring_laws.proofs.Yielding.{tests, by_case}
-use Rattle.expression_laws.specs.Fitting.{Fits}
 use Rattle.expression_laws.specs.Laws.{EachIs, EachCaseIs, EachFieldIs, PlaceIs, PartsAre, FormsAreTyped}
 use Rattle.expression_laws.specs.Results.{IsWantFine, Becomes, AreTyped}
 use Rattle.expression_laws.proofs.Annotating.{annotated_typed}
@@ -28,7 +20,7 @@ use Rattle.expression_laws.proofs.Binary.{binary_typed, assign_by_typed}
 use Rattle.expression_laws.proofs.Binding.{EachCase, switch_typed, try_typed}
 use Rattle.expression_laws.proofs.BuiltIns.{built_in_value}
 use Rattle.expression_laws.proofs.Choices.{if_typed}
-use Rattle.expression_laws.proofs.Ending.{Setting, Place, Within, WantKnown, Is, IsTypedPart, has}
+use Rattle.expression_laws.proofs.Ending.{Setting, Place, Within, WantKnown, Is, has}
 use Rattle.expression_laws.proofs.Futures.{name_typed, await_typed}
 use Rattle.expression_laws.proofs.Iterating.{for_typed}
 use Rattle.expression_laws.proofs.Leaving.{while_typed, loop_typed, repeat_typed, label_typed, break_typed, break_with_typed, continue_typed, return_typed, return_with_typed, do_option_typed, bang_typed}

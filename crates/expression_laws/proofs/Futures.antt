@@ -1,51 +1,38 @@
 -- Names, `await`, and calls, which may give futures.
-use Rattle.std.proofs.Common.{◌≡◌, ◌⊎◌, inl, inr, ℕ, suc, Bool, true, false, List, [], ◌∷◌, ◌++◌, length, map, Option, Some, None, refl, sym, ap, ◌∙◌, subst}
-use Rattle.std.specs.Prelude.{is_some, slice_get, nat_eq}
-use Rattle.mo_types.specs.declared.node.Node.{Node}
+use Rattle.std.proofs.Common.{◌≡◌, inl, inr, ℕ, Bool, true, false, List, [], ◌∷◌, Option, Some, None, refl, sym, ap, ◌∙◌, subst}
+use Rattle.std.specs.Prelude.{is_some, slice_get}
 use Rattle.mo_types.specs.declared.node.Node.TheVariants as node
-use Rattle.mo_types.specs.declared.node.Sort.{Sort}
 use Rattle.mo_types.specs.declared.node.Sort.TheVariants as sort
 use Rattle.mo_types.specs.declared.node.TypeId.{TypeId}
-use Rattle.mo_types.specs.Graph.{head_at}
-use Rattle.mo_types.specs.Heads.{async_of, func_of}
+use Rattle.mo_types.specs.Heads.{async_of}
 use Rattle.subtype_laws.specs.Reached.{Among}
 use Rattle.typed_tree.specs.declared.action.Action.TheVariants as action
 use Rattle.typed_tree.specs.declared.expression.Form.TheOpen as F
-use Rattle.typed_tree.specs.declared.expression.TypedExpression.{TypedExpression}
-use Rattle.typed_tree.specs.ActionTypes.{ResultOf}
 use Rattle.typed_tree.specs.Instances.{MentionsOnly}
-use Rattle.typed_tree.specs.Typing.{EachGives, Typed}
+use Rattle.typed_tree.specs.Typing.{Typed}
 use Rattle.typed_tree.specs.TypingLaws.{form_typing}
 use Rattle.typed_tree.specs.Wants.{Want, Of, CellOf, FutureOf}
-use Rattle.typing_rules.specs.declared.condition.Condition.TheVariants as condition
 use Rattle.typing_rules.specs.AbstractSyntax.{Bytes, Expression, Expressions}
 use Rattle.typing_rules.specs.AbstractSyntax as p
 use Rattle.typing_rules.specs.AsyncPlaces.{Body, Update, Query, Local, Around, Awaited, Named, Labelled, Other, calls, takes_call, takes_name, FuturePlaced}
-use Rattle.typing_rules.specs.Calls.{called}
 use Rattle.typing_rules.specs.Contexts.{Bound, directly, value_named}
 use Rattle.typing_rules.specs.Ends.{Has}
 use Rattle.typing_rules.specs.Expressions.{Judge, Rule}
-use Rattle.typing_rules.specs.Heads.{head, members_head, result}
-use Rattle.typing_rules.specs.Judgements.{Judgement}
+use Rattle.typing_rules.specs.Heads.{head}
 use Rattle.typing_rules.specs.Patterns.{is_empty}
 use Rattle.typing_rules.specs.Terms.{Term}
-use Rattle.typing_rules.specs.Terms as t
-use Rattle.typing_rules.specs.TypedTrees.{Note, note, typed as at_type, type_of}
-use Rattle.desugaring.specs.Expressions.{call_of}
+use Rattle.typing_rules.specs.TypedTrees.{Note, note, type_of}
 use Rattle.desugaring.specs.Frames.{Use, found}
 use Rattle.desugaring.specs.Nodes.{at, held, named}
 use Rattle.desugaring.specs.Nodes as nodes
-use Rattle.desugaring_laws.specs.Known.{IsKnown}
 use Rattle.desugaring_laws.specs.Yields.{Yields}
 use Rattle.desugaring_laws.proofs.Graph.{in_scope}
-use Rattle.desugaring_laws.proofs.HeadForms.{is_future}
-use Rattle.desugaring_laws.proofs.Yielding.{more, given, tests, if_so, part as after}
+use Rattle.desugaring_laws.proofs.Yielding.{given, tests, if_so, part as after}
 use Rattle.expression_laws.specs.Fitting.{sort_of, StandsFor, AValue, ACell, AFuture, AGeneric}
-use Rattle.expression_laws.specs.Results.{TakesFuture, IsFuture, GivesFuture, Gives, Becomes, AreTyped, standing}
-use Rattle.expression_laws.proofs.Ending.{Setting, Place, self, there, inside, value_of, as_wanted, Known, WantKnown, Is, IsPart, IsTypedPart, Tree, Value, Made, IsPlain, plain, has_so, has, a_value, acts}
-use Rattle.expression_laws.proofs.Heads.{async_head, made_scoped}
+use Rattle.expression_laws.specs.Results.{TakesFuture, GivesFuture, Gives, Becomes}
+use Rattle.expression_laws.proofs.Ending.{Setting, Place, self, there, Known, WantKnown, Is, IsTypedPart, Tree, Value, plain, has_so, has, a_value, acts}
+use Rattle.expression_laws.proofs.Heads.{made_scoped}
 use Rattle.expression_laws.proofs.Parts.{read_cell}
-use Rattle.expression_laws.proofs.Promoting.{promotes}
 use Rattle.expression_laws.proofs.Simple.{moved, only}
 use Rattle.expression_laws.proofs.Trees.{node as a_node, cell_node}
 

@@ -1,5 +1,5 @@
 -- The greatest of several types.
-use Rattle.std.proofs.Common.{◌≡◌, inl, inr, ℕ, Bool, true, false, List, [], ◌∷◌, map, refl, subst}
+use Rattle.std.proofs.Common.{inl, inr, ℕ, Bool, true, false, List, [], ◌∷◌, map, refl, subst}
 use Rattle.mo_types.specs.Sub.{Each, IsSubtype}
 use Rattle.subtype_laws.specs.Reached.{Among}
 use Rattle.typing_rules.specs.declared.condition.Condition.{Condition}

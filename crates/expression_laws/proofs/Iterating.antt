@@ -5,7 +5,6 @@ use Rattle.std.specs.Option.{option_and_then}
 use Rattle.mo_types.specs.declared.node.Field.{Field}
 use Rattle.mo_types.specs.declared.node.Node.{Node}
 use Rattle.mo_types.specs.declared.node.Node.TheVariants as node
-use Rattle.mo_types.specs.declared.node.Sort.{Sort}
 use Rattle.mo_types.specs.declared.node.Sort.TheVariants as sort
 use Rattle.mo_types.specs.declared.node.TypeId.{TypeId}
 use Rattle.mo_types.specs.Graph.{head_at}
@@ -13,9 +12,7 @@ use Rattle.mo_types.specs.Sub.{find}
 use Rattle.mo_subtype.specs.Renamed.{on_field}
 use Rattle.subtype_laws.specs.Reached.{Among}
 use Rattle.typed_tree.specs.declared.expression.Form.TheOpen as F
-use Rattle.typed_tree.specs.declared.expression.TypedExpression.{TypedExpression}
-use Rattle.typed_tree.specs.Typing.{GivesElements, Typed}
-use Rattle.typed_tree.specs.Wants.{Of}
+use Rattle.typed_tree.specs.Typing.{GivesElements}
 use Rattle.typing_rules.specs.declared.condition.Condition.TheVariants as condition
 use Rattle.typing_rules.specs.AbstractSyntax.{Bytes, Expression, Pattern}
 use Rattle.typing_rules.specs.AbstractSyntax as p
@@ -46,7 +43,7 @@ use Rattle.expression_laws.specs.Results.{standing, Gives, AreTyped}
 use Rattle.expression_laws.proofs.Assigning.{object_is}
 use Rattle.expression_laws.proofs.Binding.{Inner, InFrame, Binds, binds}
 use Rattle.expression_laws.proofs.Calling.{one_result}
-use Rattle.expression_laws.proofs.Ending.{Setting, Place, Within, self, there, inside, value_of, Known, WantKnown, Is, IsTypedPart, Tree, Value, judged, has_so, a_value}
+use Rattle.expression_laws.proofs.Ending.{Setting, Place, Within, there, inside, value_of, Known, WantKnown, Is, IsTypedPart, Tree, judged, has_so, a_value}
 use Rattle.expression_laws.proofs.Heads.{bottom_head, bottom_fine}
 use Rattle.expression_laws.proofs.Leaving.{loop_tree, BodyTyped, loop_body}
 use Rattle.expression_laws.proofs.Promoting.{promotes}

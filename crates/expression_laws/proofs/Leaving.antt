@@ -1,5 +1,5 @@
 -- Loops, labels, `do ?`, and what leaves them.
-use Rattle.std.proofs.Common.{◌≡◌, inl, inr, ℕ, Bool, true, false, List, [], ◌∷◌, map, Option, Some, None, refl, sym, ap, ◌∙◌, subst}
+use Rattle.std.proofs.Common.{◌≡◌, inl, ℕ, false, List, [], ◌∷◌, Option, Some, None, refl, sym, ap, ◌∙◌, subst}
 use Rattle.std.specs.Prelude.{slice_get}
 use Rattle.mo_scopes.specs.Scopes.{named}
 use Rattle.mo_types.specs.declared.node.Node.TheVariants as node
@@ -31,16 +31,15 @@ use Rattle.desugaring.specs.Expressions.{tree as written_out, looped}
 use Rattle.desugaring.specs.FreeNames.{occurring}
 use Rattle.desugaring.specs.Frames.{Labelled as ALabel, Continued, Optional, Frame, with_exit, exit, is_label, is_continued, is_optional, is_returned}
 use Rattle.desugaring.specs.Nodes.{at, acts as acting, operates, unit_value}
-use Rattle.desugaring_laws.specs.Known.{IsKnown}
 use Rattle.desugaring_laws.specs.Yields.{Yields}
 use Rattle.desugaring_laws.proofs.HeadForms.{is_option}
 use Rattle.desugaring_laws.proofs.Patterns.{unit_fine}
 use Rattle.desugaring_laws.proofs.Yielding.{more, given, tests, by_case, part as after}
-use Rattle.expression_laws.specs.Fitting.{IsLabelled, Fits}
-use Rattle.expression_laws.specs.Results.{standing, GivesValue, Gives, Becomes, AreTyped}
+use Rattle.expression_laws.specs.Fitting.{Fits}
+use Rattle.expression_laws.specs.Results.{standing, Gives, Becomes, AreTyped}
 use Rattle.expression_laws.proofs.Ending.{Setting, Place, IsTypedPart, part_fits, self, there, inside, settled, value_of, as_wanted, as_given, Known, WantKnown, Is, IsPart, Tree, Value, judged, wanting, has_so, has, fits, a_value, acts, written}
 use Rattle.expression_laws.proofs.Exits.{with_option, with_new_label, in_body_of}
-use Rattle.expression_laws.proofs.Heads.{boolean_head, boolean_fine, bottom_head, bottom_fine, option_head, made_fine}
+use Rattle.expression_laws.proofs.Heads.{boolean_fine, bottom_head, bottom_fine, option_head, made_fine}
 use Rattle.expression_laws.proofs.Simple.{boolean_there, unit_there, unit_known, unit_typed, unit_at, option_value, only}
 use Rattle.expression_laws.proofs.Trees.{value_node}
 use Rattle.expression_laws.proofs.Wanting.{for_all, wanted_is}

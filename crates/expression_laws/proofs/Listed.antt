@@ -1,11 +1,8 @@
 -- Forms with lists of parts: tuples and arrays.
-use Rattle.std.proofs.Common.{◌≡◌, inl, inr, ℕ, zero, suc, Bool, true, false, List, [], ◌∷◌, length, map, Option, Some, None, refl, sym, ap, ap₂, ◌∙◌, subst, arith}
+use Rattle.std.proofs.Common.{◌≡◌, inl, inr, ℕ, zero, suc, true, false, List, [], ◌∷◌, length, map, Option, Some, None, refl, sym, ap, ◌∙◌, subst, arith}
 use Rattle.std.specs.Prelude.{nat_eq}
 use Rattle.std.proofs.lemmas.Bool.{eqb-true}
-use Rattle.mo_types.specs.declared.node.Node.{Node}
 use Rattle.mo_types.specs.declared.node.Node.TheVariants as node
-use Rattle.mo_types.specs.declared.node.TypeId.{TypeId}
-use Rattle.mo_types.specs.Graph.{head_at}
 use Rattle.mo_types.specs.Heads.{array_of, mut_array_of, tuple_of}
 use Rattle.mo_types.specs.Sub.{IsSubtype}
 use Rattle.mo_types.specs.Values.{copies}
@@ -17,12 +14,12 @@ use Rattle.typed_tree.specs.declared.expression.Form.TheOpen as F
 use Rattle.typed_tree.specs.declared.expression.TypedExpression.{TypedExpression}
 use Rattle.typed_tree.specs.Instances.{MentionsOnly}
 use Rattle.typed_tree.specs.Typing.{EachGives, Typed}
-use Rattle.typed_tree.specs.Wants.{Want, Of, CellOf, Below}
+use Rattle.typed_tree.specs.Wants.{Of, CellOf}
 use Rattle.typing_rules.specs.declared.condition.Condition.TheVariants as condition
 use Rattle.typing_rules.specs.AbstractSyntax.{Expression, Expressions}
 use Rattle.typing_rules.specs.AbstractSyntax as p
 use Rattle.typing_rules.specs.AsyncPlaces.{Other}
-use Rattle.typing_rules.specs.Contexts.{Context, directly}
+use Rattle.typing_rules.specs.Contexts.{directly}
 use Rattle.typing_rules.specs.Ends.{wanted, Greatest}
 use Rattle.typing_rules.specs.Expressions.{Judge, Rule, JudgeEach, JudgeAll, some_each, element_of, Elements}
 use Rattle.typing_rules.specs.Heads.{head}
@@ -36,7 +33,7 @@ use Rattle.desugaring_laws.specs.Yields.{Yields}
 use Rattle.desugaring_laws.proofs.Graph.{below_number}
 use Rattle.desugaring_laws.proofs.HeadForms.{is_array, is_mutable_array, is_tuple}
 use Rattle.desugaring_laws.proofs.Yielding.{more, tests, by_case, part as after}
-use Rattle.expression_laws.proofs.Ending.{Setting, Place, IsTypedPart, part_fits, self, there, inside, value_of, as_wanted, as_given, Known, WantKnown, Is, IsPart, Tree, Value, Made, has, fits, a_value, acts, a_cell}
+use Rattle.expression_laws.proofs.Ending.{Setting, Place, IsTypedPart, part_fits, there, inside, value_of, as_wanted, as_given, Known, WantKnown, Is, IsPart, Value, Made, has, fits, a_value, acts, a_cell}
 use Rattle.expression_laws.proofs.Heads.{made_fine, bottom_fine, array_head, mutable_array_head, tuple_head, listed_back}
 use Rattle.expression_laws.proofs.Greatest.{IsGreatest, greatest}
 use Rattle.expression_laws.proofs.Simple.{only}

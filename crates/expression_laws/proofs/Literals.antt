@@ -1,21 +1,19 @@
 -- Literals.
-use Rattle.std.proofs.Common.{◌≡◌, inl, inr, ℕ, Bool, true, false, List, [], ◌∷◌, Option, Some, None, refl, sym, ap, ◌∙◌, subst}
-use Rattle.std.specs.Prelude.{ℤ, pos, neg_ℤ, if◌then◌else◌}
+use Rattle.std.proofs.Common.{◌≡◌, ℕ, Bool, true, false, Option, Some, refl, sym, subst}
+use Rattle.std.specs.Prelude.{ℤ, pos, neg_ℤ}
 use Rattle.std.specs.Str.{is_utf8}
 use Rattle.mo_num.specs.declared.kind.Kind.{Kind}
 use Rattle.mo_num.specs.declared.kind.Kind.TheVariants as kind
-use Rattle.mo_types.specs.declared.datum.Datum.{Datum}
 use Rattle.mo_types.specs.declared.datum.Datum.TheVariants as part
 use Rattle.mo_types.specs.declared.node.Node.{Node}
 use Rattle.mo_types.specs.declared.node.Node.TheVariants as node
 use Rattle.mo_types.specs.declared.node.TypeId.{TypeId}
 use Rattle.mo_types.specs.Graph.{head_at}
-use Rattle.mo_types.specs.Heads.{number_of, is_blob}
-use Rattle.mo_types.specs.Values.{IsPartOf, IsScalar}
+use Rattle.mo_types.specs.Heads.{number_of}
+use Rattle.mo_types.specs.Values.{IsPartOf}
 use Rattle.mo_values.specs.Parts.{is_in_range}
 use Rattle.mo_values.proofs.Leaves.{leaf_is}
 use Rattle.subtype_laws.specs.Reached.{Among}
-use Rattle.typed_tree.specs.declared.literal.Literal.TheVariants as literal
 use Rattle.typed_tree.specs.declared.expression.Form.TheOpen as F
 use Rattle.typed_tree.specs.PatternTypes.{LiteralOf}
 use Rattle.typing_rules.specs.AbstractSyntax.{Literal}
@@ -25,11 +23,11 @@ use Rattle.typing_rules.specs.Heads.{head}
 use Rattle.typing_rules.specs.Literals.{blob_of, Number, Constant}
 use Rattle.typing_rules.specs.Terms.{Term}
 use Rattle.typing_rules.specs.Terms as t
-use Rattle.typing_rules.specs.TypedTrees.{Note, note}
+use Rattle.typing_rules.specs.TypedTrees.{Note}
 use Rattle.desugaring.specs.Nodes.{literal_at, constant}
 use Rattle.desugaring_laws.specs.Written.{IsWritten}
 use Rattle.desugaring_laws.specs.Yields.{Yields}
-use Rattle.desugaring_laws.proofs.HeadForms.{is_number, has_blobs}
+use Rattle.desugaring_laws.proofs.HeadForms.{is_number}
 use Rattle.desugaring_laws.proofs.Yielding.{tests, by_case}
 use Rattle.expression_laws.proofs.Ending.{Setting, Place, there, Known, WantKnown, Is, Value, Made, IsPlain, has, fits, a_value}
 use Rattle.expression_laws.proofs.Heads.{boolean_head, boolean_fine, character_head, character_fine, text_head, text_fine, null_head, null_fine, number_head, number_fine}

@@ -1,6 +1,6 @@
 -- Members of values, by the head that they go by.
-use Rattle.std.proofs.Common.{◌≡◌, ◌⊎◌, inl, inr, ℕ, Bool, true, false, List, [], ◌∷◌, ◌++◌, map, Option, Some, None, refl, sym, ap, ◌∙◌, subst}
-use Rattle.std.specs.Prelude.{cond, codes, option_map, if◌then◌else◌, nat_eq}
+use Rattle.std.proofs.Common.{◌≡◌, inl, inr, ℕ, Bool, true, false, List, [], ◌∷◌, ◌++◌, map, Option, Some, None, refl, sym, ap, ◌∙◌, subst}
+use Rattle.std.specs.Prelude.{cond, codes, if◌then◌else◌, nat_eq}
 use Rattle.std.specs.Cmp.Lexicographic.{pointwise}
 use Rattle.std.specs.Str.{bytes_eq}
 use Rattle.std.proofs.lemmas.Slice.Eq.{bytes_eq-Decides}
@@ -40,15 +40,15 @@ use Rattle.typing_rules.specs.Judgements.{Part, Given}
 use Rattle.typing_rules.specs.Members.{function, iterator, array_members, text_members, part_of, member_type}
 use Rattle.typing_rules.specs.Terms.{Term, nat}
 use Rattle.typing_rules.specs.Terms as t
-use Rattle.typing_rules.specs.TypedTrees.{Note, type_of}
-use Rattle.desugaring.specs.Expressions.{member_of, is_mutable}
+use Rattle.typing_rules.specs.TypedTrees.{type_of}
+use Rattle.desugaring.specs.Expressions.{member_of}
 use Rattle.desugaring.specs.Nodes.{array_method, text_method, held, operates}
 use Rattle.desugaring.specs.Nodes as nodes
 use Rattle.desugaring_laws.specs.Known.{IsFine}
 use Rattle.desugaring_laws.specs.Yields.{Yields}
 use Rattle.desugaring_laws.proofs.Yielding.{given}
 use Rattle.desugaring_laws.proofs.Patterns.{find_seen, find_among}
-use Rattle.expression_laws.proofs.Ending.{Setting, Place, self, there, inside, value_of, Known, WantKnown, Is, IsTypedPart, Tree, Value, judged, has, acts}
+use Rattle.expression_laws.proofs.Ending.{Setting, Place, there, inside, value_of, Known, WantKnown, Is, IsTypedPart, Tree, Value, judged, has, acts}
 use Rattle.expression_laws.proofs.Heads.{number_head, number_fine, object_head, option_head, function_head, character_head, character_fine, made_fine, listed_back}
 use Rattle.expression_laws.proofs.Parts.{field_value}
 use Rattle.expression_laws.proofs.Promoting.{promotes}

@@ -1,5 +1,5 @@
 -- Negation.
-use Rattle.std.proofs.Common.{◌≡◌, ◌⊎◌, inl, inr, ℕ, zero, suc, Bool, true, false, List, [], ◌∷◌, Option, Some, None, refl, sym, ap, ◌∙◌, subst, arith}
+use Rattle.std.proofs.Common.{◌≡◌, inl, inr, ℕ, zero, suc, true, false, [], ◌∷◌, Option, Some, None, refl, sym, ap, ◌∙◌, subst, arith}
 use Rattle.std.specs.Prelude.{pos, neg_ℤ}
 use Rattle.std.proofs.lemmas.Int.{ints}
 use Rattle.std.specs.Option.{option_and_then}
@@ -11,19 +11,17 @@ use Rattle.mo_types.specs.declared.node.Node.{Node}
 use Rattle.mo_types.specs.declared.node.Node.TheVariants as node
 use Rattle.mo_types.specs.declared.node.TypeId.{TypeId}
 use Rattle.mo_types.specs.Graph.{head_at}
-use Rattle.mo_types.specs.Heads.{number_of, is_any}
+use Rattle.mo_types.specs.Heads.{number_of}
 use Rattle.mo_types.specs.Sub.{NumberBelow, Sub, NodeBelow}
 use Rattle.mo_types.specs.Values.{IsPartOf}
 use Rattle.mo_values.specs.declared.operation.Operation.TheVariants as op
-use Rattle.subtype_laws.specs.Reached.{Among}
 use Rattle.typed_tree.specs.declared.action.Action.TheVariants as action
 use Rattle.typed_tree.specs.declared.expression.Form.{roll-Form}
 use Rattle.typed_tree.specs.declared.expression.Form.TheOpen as F
 use Rattle.typed_tree.specs.declared.expression.TypedExpression.{TypedExpression}
 use Rattle.typed_tree.specs.declared.literal.Literal.TheVariants as literal
-use Rattle.typed_tree.specs.PatternTypes.{LiteralOf}
 use Rattle.typed_tree.specs.Typing.{Typed}
-use Rattle.typed_tree.specs.Wants.{Want, Of, Below, Serves}
+use Rattle.typed_tree.specs.Wants.{Of, Below, Serves}
 use Rattle.typed_tree.proofs.Rules.{forms, expressions}
 use Rattle.typing_rules.specs.declared.condition.Condition.TheVariants as condition
 use Rattle.typing_rules.specs.AbstractSyntax.{Expression}
@@ -31,19 +29,19 @@ use Rattle.typing_rules.specs.AbstractSyntax as p
 use Rattle.typing_rules.specs.AsyncPlaces.{Other}
 use Rattle.typing_rules.specs.Contexts.{directly}
 use Rattle.typing_rules.specs.Ends.{wanted}
-use Rattle.typing_rules.specs.Expressions.{Judge, Rule}
+use Rattle.typing_rules.specs.Expressions.{Rule}
 use Rattle.typing_rules.specs.Heads.{head}
 use Rattle.typing_rules.specs.Literals.{plain_number}
 use Rattle.typing_rules.specs.Operators.{negated, signed, negated_of, signed_of}
 use Rattle.typing_rules.specs.Terms.{Term, nat}
 use Rattle.typing_rules.specs.Terms as t
-use Rattle.typing_rules.specs.TypedTrees.{Note, note, typed as at_type, type_of, place}
+use Rattle.typing_rules.specs.TypedTrees.{Note, typed as at_type, type_of, place}
 use Rattle.desugaring.specs.Expressions.{negative_of}
-use Rattle.desugaring.specs.Nodes.{kind_or, kind_of, literal_at, operates}
+use Rattle.desugaring.specs.Nodes.{kind_or, kind_of, operates}
 use Rattle.desugaring_laws.specs.Yields.{Yields}
 use Rattle.desugaring_laws.proofs.HeadForms.{is_number}
 use Rattle.desugaring_laws.proofs.Yielding.{given, by_case}
-use Rattle.expression_laws.proofs.Ending.{Setting, Place, self, there, value_of, as_wanted, Known, WantKnown, Is, IsPart, IsTypedPart, Tree, Value, Made, judged, has, fits, acts}
+use Rattle.expression_laws.proofs.Ending.{Setting, Place, there, value_of, as_wanted, Known, WantKnown, Is, IsPart, IsTypedPart, Tree, Value, judged, has, fits, acts}
 use Rattle.expression_laws.proofs.Heads.{number_head, number_fine}
 use Rattle.expression_laws.proofs.Literals.{literal_value, number_typed}
 use Rattle.expression_laws.proofs.Simple.{as_fine}

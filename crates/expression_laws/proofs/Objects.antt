@@ -1,14 +1,11 @@
 -- Objects that are written with their fields.
-use Rattle.std.proofs.Common.{◌≡◌, ◌≢◌, inl, inr, ℕ, Bool, true, false, not, List, [], ◌∷◌, ◌++◌, map, Option, Some, None, refl, sym, ap, ap₂, ◌∙◌, subst}
+use Rattle.std.proofs.Common.{◌≡◌, ◌≢◌, inl, inr, ℕ, Bool, true, false, List, [], ◌∷◌, map, Option, Some, None, refl, sym, ap, ◌∙◌, subst}
 use Rattle.std.specs.Prelude.{cond, if◌then◌else◌, nat_eq}
 use Rattle.std.specs.Cmp.Lexicographic.{pointwise}
 use Rattle.std.specs.Str.{bytes_eq}
 use Rattle.std.proofs.lemmas.Slice.Eq.{bytes_eq-Decides}
 use Rattle.mo_types.specs.declared.node.Field.{Field}
-use Rattle.mo_types.specs.declared.node.Node.{Node}
 use Rattle.mo_types.specs.declared.node.Node.TheVariants as node
-use Rattle.mo_types.specs.declared.node.TypeId.{TypeId}
-use Rattle.mo_types.specs.Graph.{head_at}
 use Rattle.mo_types.specs.Heads.{object_of}
 use Rattle.mo_types.specs.Label.{label_id}
 use Rattle.mo_types.specs.Sub.{Each, IsSubtype, find}
@@ -22,7 +19,7 @@ use Rattle.typed_tree.specs.Has.{field_want, by_mutability}
 use Rattle.typed_tree.specs.Instances.{IsAmong}
 use Rattle.typed_tree.specs.OperationTypes.{Distinct}
 use Rattle.typed_tree.specs.Typing.{EachGives, Typed}
-use Rattle.typed_tree.specs.Wants.{Want, Anything, Of, CellOf}
+use Rattle.typed_tree.specs.Wants.{Anything, Of, CellOf}
 use Rattle.typing_rules.specs.declared.condition.Condition.TheVariants as condition
 use Rattle.typing_rules.specs.AbstractSyntax.{Bytes, Expression, ObjectFields}
 use Rattle.typing_rules.specs.AbstractSyntax as p

@@ -1,13 +1,11 @@
 -- The rules of operators.
-use Rattle.std.proofs.Common.{◌≡◌, inl, inr, ℕ, Bool, true, false, List, [], ◌∷◌, Option, Some, None, refl, sym, ap, ◌∙◌, subst}
+use Rattle.std.proofs.Common.{◌≡◌, inl, inr, ℕ, true, [], ◌∷◌, Option, Some, None, refl, sym, ◌∙◌, subst}
 use Rattle.mo_num.specs.declared.kind.Kind.{Kind}
 use Rattle.mo_syntax.specs.declared.operators.BinaryOperator.{BinaryOperator}
 use Rattle.mo_syntax.specs.declared.operators.BinaryOperator.TheVariants as sign
 use Rattle.mo_types.specs.declared.node.Node.{Node}
 use Rattle.mo_types.specs.declared.node.Node.TheVariants as node
-use Rattle.mo_types.specs.declared.node.TypeId.{TypeId}
 use Rattle.mo_types.specs.Graph.{head_at}
-use Rattle.mo_types.specs.Sub.{IsSubtype}
 use Rattle.mo_subtype.specs.Renamed.{on_node}
 use Rattle.mo_values.specs.declared.operation.Comparison.{Comparison}
 use Rattle.mo_values.specs.declared.operation.Comparison.TheVariants as comparison
@@ -15,37 +13,33 @@ use Rattle.mo_values.specs.declared.operation.Operation.TheVariants as op
 use Rattle.mo_values.specs.Views.{scalar_type}
 use Rattle.subtype_laws.specs.Reached.{Among}
 use Rattle.typed_tree.specs.declared.action.Action.TheVariants as action
-use Rattle.typed_tree.specs.declared.literal.Literal.TheVariants as literal
-use Rattle.typed_tree.specs.declared.expression.Form.TheOpen as F
 use Rattle.typed_tree.specs.declared.expression.TypedExpression.{TypedExpression}
 use Rattle.typed_tree.specs.OperationTypes.{IsOrdered}
 use Rattle.typed_tree.specs.Shareable.{IsComparable}
 use Rattle.typed_tree.specs.Typing.{Typed}
-use Rattle.typed_tree.specs.Wants.{Of, Below}
+use Rattle.typed_tree.specs.Wants.{Of}
 use Rattle.typing_rules.specs.declared.condition.Condition.TheVariants as condition
 use Rattle.typing_rules.specs.AbstractSyntax.{Expression}
 use Rattle.typing_rules.specs.AbstractSyntax as p
 use Rattle.typing_rules.specs.Ends.{wanted, Has, Greatest}
 use Rattle.typing_rules.specs.Heads.{head}
-use Rattle.typing_rules.specs.Judgements.{Judgement, Gives, IsBelow}
-use Rattle.typing_rules.specs.Literals.{Written, own_type, has_own, may_have}
-use Rattle.typing_rules.specs.Operands.{OtherOperand, LiteralOperand, GreatestOf, Operands, Arithmetic, Equality, Ordering, BothFit}
+use Rattle.typing_rules.specs.Judgements.{Gives}
+use Rattle.typing_rules.specs.Literals.{Written, has_own, may_have}
+use Rattle.typing_rules.specs.Operands.{OtherOperand, LiteralOperand, GreatestOf, Operands, Arithmetic, Equality, Ordering}
 use Rattle.typing_rules.specs.Operators.{Family, number_with, is_ordered}
 use Rattle.typing_rules.specs.Operators as family
 use Rattle.typing_rules.specs.Terms.{Term}
 use Rattle.typing_rules.specs.Terms as t
-use Rattle.typing_rules.specs.TypedTrees.{Note, Judged, note, typed as at_type, type_of, subsumed}
-use Rattle.desugaring.specs.Nodes.{at, scalar_of, operates, binary}
-use Rattle.desugaring_laws.specs.Known.{IsFine}
+use Rattle.typing_rules.specs.TypedTrees.{Note, Judged, type_of, subsumed}
+use Rattle.desugaring.specs.Nodes.{scalar_of, operates, binary}
 use Rattle.desugaring_laws.specs.Yields.{Yields}
 use Rattle.desugaring_laws.proofs.Graph.{below_number}
 use Rattle.desugaring_laws.proofs.Yielding.{more, given, tests, if_so, by_case, part as after}
 use Rattle.expression_laws.specs.Results.{IsWantFine}
 use Rattle.expression_laws.proofs.Comparing.{comparable}
-use Rattle.expression_laws.proofs.Ending.{Setting, Place, self, there, value_of, as_wanted, Known, WantKnown, Is, IsPart, Tree, Value, Made, has, fits, a_value, acts}
+use Rattle.expression_laws.proofs.Ending.{Setting, Place, there, value_of, as_wanted, Known, WantKnown, Is, IsPart, Tree, Value, has, fits, acts}
 use Rattle.expression_laws.proofs.Greatest.{IsGreatest, greatest}
-use Rattle.expression_laws.proofs.Heads.{boolean_fine, text_head, text_fine, number_fine}
-use Rattle.expression_laws.proofs.Operating.{StandsOn, alike_value, binary_value}
+use Rattle.expression_laws.proofs.Operating.{binary_value}
 use Rattle.expression_laws.proofs.Simple.{boolean_there, boolean_known, as_fine}
 use Rattle.expression_laws.proofs.Wanting.{wanted_is}
 

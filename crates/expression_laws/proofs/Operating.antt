@@ -1,5 +1,5 @@
 -- Operators.
-use Rattle.std.proofs.Common.{◌≡◌, ◌⊎◌, inl, inr, ℕ, Bool, true, false, List, [], ◌∷◌, Option, Some, None, refl, sym, ap, ◌∙◌, subst}
+use Rattle.std.proofs.Common.{◌≡◌, true, [], ◌∷◌, Option, Some, None, refl, sym, ap, ◌∙◌}
 use Rattle.std.specs.Option.{option_and_then}
 use Rattle.mo_num.specs.declared.kind.Kind.{Kind}
 use Rattle.mo_num.specs.declared.kind.Kind.TheVariants as kind
@@ -9,34 +9,26 @@ use Rattle.mo_syntax.specs.declared.operators.BinaryOperator.{BinaryOperator}
 use Rattle.mo_syntax.specs.declared.operators.BinaryOperator.TheVariants as sign
 use Rattle.mo_types.specs.declared.node.Node.{Node}
 use Rattle.mo_types.specs.declared.node.Node.TheVariants as node
-use Rattle.mo_types.specs.declared.node.TypeId.{TypeId}
 use Rattle.mo_types.specs.Graph.{head_at}
 use Rattle.mo_types.specs.Heads.{number_of}
-use Rattle.mo_types.specs.Sub.{IsSubtype}
 use Rattle.mo_values.specs.declared.operation.Operation.{Operation}
 use Rattle.mo_values.specs.declared.operation.Operation.TheVariants as op
-use Rattle.mo_values.specs.declared.operation.Comparison.{Comparison}
-use Rattle.mo_values.specs.declared.operation.Comparison.TheVariants as comparison
 use Rattle.mo_values.specs.declared.operation.Wrapping.{Wrapping}
 use Rattle.mo_values.specs.declared.operation.Wrapping.TheVariants as wrapping
 use Rattle.mo_values.specs.Numbers.{has_width}
 use Rattle.subtype_laws.specs.Reached.{Among}
 use Rattle.typed_tree.specs.declared.action.Action.TheVariants as action
-use Rattle.typed_tree.specs.declared.expression.Form.TheOpen as F
 use Rattle.typed_tree.specs.declared.expression.TypedExpression.{TypedExpression}
 use Rattle.typed_tree.specs.OperationTypes.{OperationTyped}
 use Rattle.typed_tree.specs.Typing.{Typed}
-use Rattle.typed_tree.specs.Wants.{Of, Below}
-use Rattle.typing_rules.specs.AbstractSyntax.{Expression}
-use Rattle.typing_rules.specs.AbstractSyntax as p
+use Rattle.typed_tree.specs.Wants.{Of}
 use Rattle.typing_rules.specs.Heads.{head}
 use Rattle.typing_rules.specs.Operators.{Family, number_with, fixed}
 use Rattle.typing_rules.specs.Operators as family
 use Rattle.typing_rules.specs.Terms.{Term}
-use Rattle.typing_rules.specs.Terms as t
 use Rattle.desugaring.specs.Nodes.{kind_or, kind_of, operation, operates, binary}
 use Rattle.desugaring_laws.proofs.HeadForms.{is_number}
-use Rattle.expression_laws.proofs.Ending.{Setting, Place, self, there, Known, Value, acts}
+use Rattle.expression_laws.proofs.Ending.{Setting, Place, there, Known, Value, acts}
 
 -- a number type on which the operators of a family stand
 number_is : (f : Family) (y : Node Term) (k : Kind) → number_with f y ≡ Some k → (j : Kind) × (number_of y ≡ Some j) × (family.standing f j ≡ Some k)

@@ -1,12 +1,10 @@
 -- Parts of values: of tuples, arrays, objects, actors and texts.
 use Rattle.std.proofs.Common.{◌≡◌, ◌⊎◌, inl, inr, ℕ, zero, suc, Bool, true, false, List, [], ◌∷◌, map, Option, Some, None, refl, sym, ap, ◌∙◌, subst}
-use Rattle.std.specs.Prelude.{slice_get, option_map, cond, codes}
-use Rattle.std.specs.Str.{bytes_eq}
+use Rattle.std.specs.Prelude.{slice_get}
 use Rattle.mo_num.specs.declared.kind.Kind.TheVariants as kind
 use Rattle.mo_types.specs.declared.node.Field.{Field}
 use Rattle.mo_types.specs.declared.node.Node.{Node}
 use Rattle.mo_types.specs.declared.node.Node.TheVariants as node
-use Rattle.mo_types.specs.declared.node.TypeId.{TypeId}
 use Rattle.mo_types.specs.Graph.{head_at}
 use Rattle.mo_types.specs.Heads.{tuple_of}
 use Rattle.mo_types.specs.Sub.{find}
@@ -26,17 +24,16 @@ use Rattle.typing_rules.specs.Contexts.{directly}
 use Rattle.typing_rules.specs.Expressions.{Rule, element_of}
 use Rattle.typing_rules.specs.Heads.{head, members_head}
 use Rattle.typing_rules.specs.Terms.{Term, nat}
-use Rattle.typing_rules.specs.Terms as t
-use Rattle.typing_rules.specs.TypedTrees.{Note, type_of}
+use Rattle.typing_rules.specs.TypedTrees.{type_of}
 use Rattle.desugaring.specs.Expressions.{element_at, is_mutable}
 use Rattle.desugaring.specs.Nodes.{held, operates}
 use Rattle.desugaring_laws.specs.Yields.{Yields}
 use Rattle.desugaring_laws.proofs.HeadForms.{is_tuple}
 use Rattle.desugaring_laws.proofs.Patterns.{find_seen, find_among}
-use Rattle.desugaring_laws.proofs.Yielding.{given, tests, by_case}
-use Rattle.expression_laws.proofs.Ending.{Setting, Place, self, there, inside, value_of, as_wanted, Known, WantKnown, Is, IsPart, IsTypedPart, Tree, Value, judged, wanting, has, acts, a_cell}
+use Rattle.desugaring_laws.proofs.Yielding.{given}
+use Rattle.expression_laws.proofs.Ending.{Setting, Place, there, inside, value_of, as_wanted, Known, WantKnown, Is, IsTypedPart, Tree, Value, judged, wanting, has, acts, a_cell}
 use Rattle.expression_laws.proofs.Heads.{number_head, number_fine}
-use Rattle.expression_laws.proofs.Promoting.{Promoted, promotes}
+use Rattle.expression_laws.proofs.Promoting.{promotes}
 
 element_is : (y : Node Term) (u : Term) → element_of y ≡ Some u → (y ≡ node.Array u) ⊎ (y ≡ node.MutArray u)
 element_is (node.Array a) u e = let g : a ≡ u = cc in inl (ap (λ z. node.Array z) g)

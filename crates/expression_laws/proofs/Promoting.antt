@@ -1,16 +1,15 @@
 -- The type that a value's members go by.
-use Rattle.std.proofs.Common.{◌≡◌, inl, inr, ℕ, zero, suc, Bool, true, false, List, [], ◌∷◌, length, Option, Some, None, refl, sym, ap, ◌∙◌, subst}
+use Rattle.std.proofs.Common.{◌≡◌, inl, inr, ℕ, zero, suc, Bool, true, false, length, Option, Some, None, refl, sym, ap, subst}
 use Rattle.std.specs.Prelude.{nat_eq}
 use Rattle.mo_types.specs.declared.node.Node.{Node}
 use Rattle.mo_types.specs.declared.node.Node.TheVariants as node
 use Rattle.mo_types.specs.declared.node.TypeId.{TypeId}
-use Rattle.mo_types.specs.Graph.{Slot, head_at}
+use Rattle.mo_types.specs.Graph.{head_at}
 use Rattle.mo_types.specs.Heads.{variable_of}
-use Rattle.mo_types.specs.Sub.{Unless, Sub, IsSubtype, NodeBelow, VariableBelow}
+use Rattle.mo_types.specs.Sub.{Unless, Sub, NodeBelow, VariableBelow}
 use Rattle.typed_tree.specs.declared.expression.TypedExpression.{TypedExpression}
 use Rattle.typed_tree.specs.Typing.{Typed}
 use Rattle.typed_tree.specs.Wants.{Of, Below}
-use Rattle.typing_rules.specs.Definitions.{Definitions}
 use Rattle.typing_rules.specs.Heads.{head, bound_of, promoted, promoted_once, members_head}
 use Rattle.typing_rules.specs.Terms.{Term}
 use Rattle.expression_laws.proofs.Ending.{Setting, Place, self, trans, there, inside, Known, Value}

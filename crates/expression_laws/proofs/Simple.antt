@@ -1,14 +1,10 @@
 -- Forms of which each part is judged where the whole stands: choices, `not`, `assert`, `ignore`, `debug`, annotations, tuples, options, tags, arrays.
-use Rattle.std.proofs.Common.{◌≡◌, inl, inr, ℕ, suc, Bool, true, false, List, [], ◌∷◌, length, map, Option, Some, None, refl, sym, ap, ◌∙◌, subst}
-use Rattle.std.specs.Prelude.{nat_eq}
-use Rattle.mo_types.specs.declared.node.Field.{Field}
-use Rattle.mo_types.specs.declared.node.Node.{Node}
+use Rattle.std.proofs.Common.{◌≡◌, inl, inr, ℕ, true, List, [], ◌∷◌, Option, Some, None, refl, sym, ◌∙◌, subst}
 use Rattle.mo_types.specs.declared.node.Node.TheVariants as node
 use Rattle.mo_types.specs.declared.node.TypeId.{TypeId}
 use Rattle.mo_types.specs.Graph.{head_at}
-use Rattle.mo_types.specs.Heads.{opt_of, array_of, mut_array_of, tuple_of, variant_of}
-use Rattle.mo_types.specs.Sub.{IsSubtype, find}
-use Rattle.mo_subtype.specs.Renamed.{on_field, on_node}
+use Rattle.mo_types.specs.Heads.{opt_of}
+use Rattle.mo_types.specs.Sub.{IsSubtype}
 use Rattle.mo_values.specs.declared.operation.Operation.TheVariants as op
 use Rattle.subtype_laws.specs.Reached.{Among}
 use Rattle.typed_tree.specs.declared.action.Action.TheVariants as action
@@ -17,8 +13,8 @@ use Rattle.typed_tree.specs.declared.expression.Form.TheOpen as F
 use Rattle.typed_tree.specs.declared.expression.TypedExpression.{TypedExpression}
 use Rattle.typed_tree.specs.declared.expression.Step.{roll-Step}
 use Rattle.typed_tree.specs.Instances.{MentionsOnly}
-use Rattle.typed_tree.specs.Typing.{EachGives, Typed}
-use Rattle.typed_tree.specs.Wants.{Want, Of, CellOf, FutureOf, Below}
+use Rattle.typed_tree.specs.Typing.{Typed}
+use Rattle.typed_tree.specs.Wants.{Want, Of, FutureOf}
 use Rattle.typed_tree.proofs.Rules.{steps}
 use Rattle.typing_rules.specs.AbstractSyntax.{Bytes, Expression, Expressions}
 use Rattle.typing_rules.specs.AbstractSyntax as p
@@ -26,25 +22,23 @@ use Rattle.mo_types.specs.declared.node.Sort.TheVariants as sort
 use Rattle.typing_rules.specs.AsyncPlaces.{Body, Update, Query, Local, Around, Awaited, Other, waits}
 use Rattle.typing_rules.specs.Contexts.{Context, Label, directly}
 use Rattle.typing_rules.specs.Ends.{wanted}
-use Rattle.typing_rules.specs.Expressions.{Judge, Rule, JudgeEach, JudgeAll, some_each}
+use Rattle.typing_rules.specs.Expressions.{Judge, Rule}
 use Rattle.typing_rules.specs.Heads.{head}
-use Rattle.typing_rules.specs.Judgements.{Judgement}
 use Rattle.typing_rules.specs.Terms.{Term, unit, listed, unlisted}
 use Rattle.typing_rules.specs.Terms as t
-use Rattle.typing_rules.specs.TypedTrees.{Note, note, type_of, types_of, count}
-use Rattle.desugaring.specs.Expressions.{trees}
+use Rattle.typing_rules.specs.TypedTrees.{Note, type_of}
 use Rattle.desugaring.specs.FreeNames.{occurring}
 use Rattle.desugaring.specs.Nodes.{unit_value, operates}
 use Rattle.desugaring_laws.specs.Known.{IsKnown}
 use Rattle.desugaring_laws.specs.Yields.{Yields}
-use Rattle.desugaring_laws.proofs.Graph.{each_among, below_number}
-use Rattle.desugaring_laws.proofs.HeadForms.{is_option, is_array, is_mutable_array, is_tuple, is_variant}
+use Rattle.desugaring_laws.proofs.Graph.{below_number}
+use Rattle.desugaring_laws.proofs.HeadForms.{is_option}
 use Rattle.desugaring_laws.proofs.Patterns.{unit_fine}
-use Rattle.desugaring_laws.proofs.Yielding.{given, tests, by_case, part as after}
+use Rattle.desugaring_laws.proofs.Yielding.{tests, by_case, part as after}
 use Rattle.expression_laws.specs.Fitting.{sort_of, Fits}
-use Rattle.expression_laws.specs.Results.{IsWantFine, Gives, Becomes, AreTyped}
+use Rattle.expression_laws.specs.Results.{IsWantFine, Gives, Becomes}
 use Rattle.expression_laws.proofs.Ending.{Setting, Place, Within, IsTypedPart, self, trans, there, inside, value_of, as_wanted, as_given, Known, WantKnown, Is, IsPart, Tree, Value, judged, wanting, stands_so, has, fits, a_value, acts}
-use Rattle.expression_laws.proofs.Heads.{boolean_head, boolean_fine, error_head, error_fine, bottom_head, bottom_fine, option_head, made_fine, tuple_head, listed_back}
+use Rattle.expression_laws.proofs.Heads.{boolean_head, boolean_fine, error_head, error_fine, bottom_head, bottom_fine, option_head, made_fine, tuple_head}
 use Rattle.expression_laws.proofs.Wanting.{wanted_is}
 
 module _ (S : Setting) where

@@ -1,15 +1,11 @@
 -- Variants.
-use Rattle.std.proofs.Common.{◌≡◌, inl, inr, ℕ, Bool, true, false, List, [], ◌∷◌, map, Option, Some, None, refl, sym, ap, ◌∙◌, subst}
+use Rattle.std.proofs.Common.{◌≡◌, ℕ, false, List, [], ◌∷◌, map, Option, Some, None, refl, ap, subst}
 use Rattle.mo_types.specs.declared.node.Field.{Field}
-use Rattle.mo_types.specs.declared.node.Node.{Node}
 use Rattle.mo_types.specs.declared.node.Node.TheVariants as node
-use Rattle.mo_types.specs.declared.node.TypeId.{TypeId}
-use Rattle.mo_types.specs.Graph.{head_at}
 use Rattle.mo_types.specs.Heads.{variant_of}
-use Rattle.mo_types.specs.Sub.{IsSubtype, find}
+use Rattle.mo_types.specs.Sub.{find}
 use Rattle.std.proofs.lemmas.Slice.Eq.{bytes_eq-Decides}
 use Rattle.std.specs.Prelude.{if◌then◌else◌}
-use Rattle.std.specs.Str.{bytes_eq}
 use Rattle.mo_subtype.specs.Renamed.{on_field}
 use Rattle.mo_values.specs.declared.operation.Operation.TheVariants as op
 use Rattle.subtype_laws.specs.Reached.{Among}
@@ -27,14 +23,14 @@ use Rattle.typing_rules.specs.Expressions.{Rule}
 use Rattle.typing_rules.specs.Heads.{head}
 use Rattle.typing_rules.specs.Terms.{Term, unit}
 use Rattle.typing_rules.specs.Terms as t
-use Rattle.typing_rules.specs.TypedTrees.{Note, type_of}
+use Rattle.typing_rules.specs.TypedTrees.{type_of}
 use Rattle.desugaring.specs.Nodes.{operates, unit_value}
 use Rattle.desugaring_laws.specs.Known.{IsFine}
 use Rattle.desugaring_laws.specs.Yields.{Yields}
 use Rattle.desugaring_laws.proofs.HeadForms.{is_variant}
 use Rattle.desugaring_laws.proofs.Patterns.{find_seen, find_among, unit_fine}
-use Rattle.desugaring_laws.proofs.Yielding.{given, tests, by_case}
-use Rattle.expression_laws.proofs.Ending.{Setting, Place, self, there, inside, value_of, as_wanted, as_given, Known, WantKnown, Is, IsPart, IsTypedPart, Tree, Value, judged, has, fits, acts}
+use Rattle.desugaring_laws.proofs.Yielding.{given, by_case}
+use Rattle.expression_laws.proofs.Ending.{Setting, Place, there, inside, value_of, as_wanted, as_given, Known, WantKnown, Is, IsTypedPart, Tree, Value, judged, has, fits, acts}
 use Rattle.expression_laws.proofs.Heads.{variant_head, made_fine}
 use Rattle.expression_laws.proofs.Simple.{unit_typed, unit_at, only}
 use Rattle.expression_laws.proofs.Wanting.{wanted_is}

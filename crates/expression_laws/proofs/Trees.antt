@@ -1,16 +1,16 @@
 -- Trees that are typed, by the forms of their nodes.
-use Rattle.std.proofs.Common.{◌≡◌, List, [], ◌∷◌, refl}
+use Rattle.std.proofs.Common.{List, refl}
 use Rattle.mo_types.specs.declared.node.TypeId.{TypeId}
 use Rattle.mo_types.specs.Graph.{Slot, head_at}
 use Rattle.typed_tree.specs.declared.action.Action.{Action}
-use Rattle.typed_tree.specs.declared.expression.Form.{Form, roll-Form}
+use Rattle.typed_tree.specs.declared.expression.Form.{roll-Form}
 use Rattle.typed_tree.specs.declared.expression.Form.TheOpen as F
 use Rattle.typed_tree.specs.declared.expression.TypedExpression.{TypedExpression}
 use Rattle.typed_tree.specs.ActionTypes.{Context, ActionTyped}
 use Rattle.typed_tree.specs.PatternTypes.{IsInScope}
 use Rattle.typed_tree.specs.Typing.{OwnType, EachGives, Typed}
 use Rattle.typed_tree.specs.TypingLaws.{form_typing}
-use Rattle.typed_tree.specs.Wants.{Want, Of, CellOf, FutureOf, Below, Serves}
+use Rattle.typed_tree.specs.Wants.{Want, Of, CellOf, Below, Serves}
 use Rattle.typed_tree.proofs.Rules.{forms, expressions}
 use Rattle.typing_rules.specs.Definitions.{Definitions}
 use Rattle.typing_rules.specs.Terms.{Term}

@@ -1,5 +1,5 @@
 -- What a judged expression becomes where it is written out.
-use Rattle.std.specs.Prelude.{◌≡◌, ◌⊎◌, ℕ, List, [], ◌∷◌, Option, Some, None}
+use Rattle.std.specs.Prelude.{◌≡◌, ◌⊎◌, ℕ, List, ◌∷◌, Option, Some, None}
 use Rattle.mo_types.specs.declared.node.Node.TheVariants as node
 use Rattle.mo_types.specs.declared.node.TypeId.{TypeId}
 use Rattle.mo_types.specs.Graph.{Slot, head_at}
@@ -10,7 +10,7 @@ use Rattle.typed_tree.specs.Instances.{MentionsOnly}
 use Rattle.typed_tree.specs.Typing as tree
 use Rattle.typed_tree.specs.Wants.{Anything, Of, FutureOf, Below}
 use Rattle.typing_rules.specs.AbstractSyntax.{Bytes, Expression}
-use Rattle.typing_rules.specs.AsyncPlaces.{Around, Awaited, Named, Labelled, Other}
+use Rattle.typing_rules.specs.AsyncPlaces.{Around, Awaited, Named, Labelled}
 use Rattle.typing_rules.specs.Contexts.{Context, Label}
 use Rattle.typing_rules.specs.Definitions.{Definitions}
 use Rattle.typing_rules.specs.Expressions.{Judge}

@@ -1,5 +1,5 @@
 -- Calls, where what is called may have type parameters.
-use Rattle.std.proofs.Common.{◌≡◌, ◌≢◌, ◌⊎◌, inl, inr, ℕ, suc, Bool, true, false, List, [], ◌∷◌, ◌++◌, length, map, Option, Some, None, refl, sym, ap, ap₂, ◌∙◌, subst, arith}
+use Rattle.std.proofs.Common.{◌≡◌, ◌≢◌, inl, inr, ℕ, suc, true, List, [], ◌∷◌, ◌++◌, length, map, Option, Some, None, refl, sym, ap, ◌∙◌, subst, arith}
 use Rattle.std.proofs.lemmas.Bool.{eqb-true}
 use Rattle.std.specs.Option.{option_and_then}
 use Rattle.std.specs.Prelude.{nat_eq, slice_get}
@@ -10,14 +10,13 @@ use Rattle.mo_types.specs.declared.node.Node.TheVariants as node
 use Rattle.mo_types.specs.declared.node.Sort.TheVariants as sort
 use Rattle.mo_types.specs.declared.node.TypeId.{TypeId}
 use Rattle.mo_types.specs.Graph.{head_at}
-use Rattle.mo_types.specs.Heads.{async_of, func_of}
 use Rattle.mo_types.specs.Sub.{IsSubtype, Each}
 use Rattle.subtype_laws.specs.Reached.{Among}
 use Rattle.typed_tree.specs.declared.action.Action.TheVariants as action
 use Rattle.typed_tree.specs.declared.expression.Form.TheOpen as F
 use Rattle.typed_tree.specs.Instances.{types_in}
 use Rattle.typed_tree.specs.MemberTypes.{Function, MemberTyped}
-use Rattle.typed_tree.specs.Wants.{Want, Of, Generic}
+use Rattle.typed_tree.specs.Wants.{Want, Generic}
 use Rattle.typing_rules.specs.declared.condition.Condition.TheVariants as condition
 use Rattle.typing_rules.specs.AbstractSyntax.{Bytes, TypeNode, Expression, Expressions, Form}
 use Rattle.typing_rules.specs.AbstractSyntax as p
@@ -27,8 +26,8 @@ use Rattle.typing_rules.specs.Contexts.{Context, Bound, directly, value_named}
 use Rattle.typing_rules.specs.Definitions.{bound_at}
 use Rattle.typing_rules.specs.Expressions.{Judge, Rule}
 use Rattle.typing_rules.specs.Heads.{head}
-use Rattle.typing_rules.specs.Judgements.{Judgement, Question, IsBelow, Gives, Meets, Part, Case, Given, Tests, MeetsEach, NeedsEach}
-use Rattle.typing_rules.specs.Members.{function, element, member_bound}
+use Rattle.typing_rules.specs.Judgements.{Judgement, Gives, Meets, Part, Case, Given, Tests, MeetsEach, NeedsEach}
+use Rattle.typing_rules.specs.Members.{function, member_bound}
 use Rattle.typing_rules.specs.Patterns.{is_empty}
 use Rattle.typing_rules.specs.Terms.{Term, nat, with_arguments, zipped}
 use Rattle.typing_rules.specs.Terms as t
@@ -38,7 +37,6 @@ use Rattle.desugaring.specs.Frames.{found}
 use Rattle.desugaring.specs.FreeNames.{occurring}
 use Rattle.desugaring.specs.Nodes.{at, held, built_in as built_in_member}
 use Rattle.desugaring.specs.Nodes as nodes
-use Rattle.desugaring_laws.specs.Known.{IsKnown}
 use Rattle.desugaring_laws.specs.Yields.{Yields}
 use Rattle.desugaring_laws.proofs.Graph.{parts_there}
 use Rattle.desugaring_laws.proofs.Scoping.{scoped_in}

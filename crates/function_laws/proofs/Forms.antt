@@ -1,21 +1,14 @@
 -- Each form whose parts are typed.
-use Rattle.std.proofs.Common.{◌≡◌, ℕ, List, ◌++◌, Option, Some, None, refl, sym, subst}
-use Rattle.mo_types.specs.declared.node.TypeId.{TypeId}
-use Rattle.mo_types.specs.Graph.{Slot}
+use Rattle.std.proofs.Common.{◌≡◌, ℕ, ◌++◌, Option, Some, None, refl, sym, subst}
 use Rattle.subtype_laws.specs.Reached.{Among}
-use Rattle.typed_tree.specs.ActionTypes as typed
 use Rattle.typing_rules.specs.AbstractSyntax.{Expressions, Form}
 use Rattle.typing_rules.specs.AbstractSyntax as p
 use Rattle.typing_rules.specs.AsyncPlaces.{Other}
-use Rattle.typing_rules.specs.Contexts.{Context, directly}
-use Rattle.typing_rules.specs.Definitions.{Definitions}
+use Rattle.typing_rules.specs.Contexts.{directly}
 use Rattle.typing_rules.specs.Expressions.{Judge, Rule}
-use Rattle.typing_rules.specs.Terms.{Term, unit}
-use Rattle.desugaring.specs.Frames.{Frame}
+use Rattle.typing_rules.specs.Terms.{Term}
 use Rattle.desugaring.specs.FreeNames.{occurring, in_each}
-use Rattle.desugaring_laws.specs.GraphOf.{IsGraphOf}
 use Rattle.desugaring_laws.specs.Yields.{Yields}
-use Rattle.expression_laws.specs.Fitting.{Fits}
 use Rattle.expression_laws.specs.Results.{IsWantFine, Becomes, AreTyped}
 use Rattle.expression_laws.proofs.Ending.{Setting, Place, Within, WantKnown, Is}
 use Rattle.expression_laws.specs.Laws.{EachIs}

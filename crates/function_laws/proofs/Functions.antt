@@ -1,23 +1,20 @@
 -- Functions that are no shared ones.
-use Rattle.std.proofs.Common.{◌≡◌, ◌⊎◌, inl, inr, ℕ, ◌+◌, Bool, true, false, List, [], ◌∷◌, ◌++◌, length, map, Option, Some, None, refl, sym, ap, ap₂, ◌∙◌, subst}
+use Rattle.std.proofs.Common.{◌≡◌, ◌⊎◌, inl, inr, ℕ, ◌+◌, List, [], ◌∷◌, ◌++◌, length, map, Option, Some, None, refl, sym, ap, ◌∙◌, subst}
 use Rattle.std.specs.Prelude.{nat_eq}
 use Rattle.mo_types.specs.declared.node.Node.{Node}
 use Rattle.mo_types.specs.declared.node.Node.TheVariants as node
 use Rattle.mo_types.specs.declared.node.Sort.TheVariants as sort
-use Rattle.mo_types.specs.declared.node.TypeId.{TypeId}
 use Rattle.mo_types.specs.Graph.{head_at}
 use Rattle.mo_types.specs.Sub.{Each}
 use Rattle.subtype_laws.specs.Reached.{Among}
 use Rattle.typed_tree.specs.declared.expression.Form.TheOpen as F
 use Rattle.typed_tree.specs.declared.expression.Function.{Function}
 use Rattle.typed_tree.specs.declared.expression.Step.{roll-Step}
-use Rattle.typed_tree.specs.declared.expression.TypedExpression.{TypedExpression}
 use Rattle.typed_tree.specs.ActionTypes as typed
-use Rattle.typed_tree.specs.Instances.{MentionsOnly, types_in}
-use Rattle.typed_tree.specs.MemberTypes as member
+use Rattle.typed_tree.specs.Instances.{MentionsOnly}
 use Rattle.typed_tree.specs.OperationTypes.{Distinct}
 use Rattle.typed_tree.specs.Typing.{AreParameters, IsFunctionOf, NameOf, Declares, Typed, in_body, with_names}
-use Rattle.typed_tree.specs.Wants.{Want, Of}
+use Rattle.typed_tree.specs.Wants.{Of}
 use Rattle.typed_tree.proofs.Rules.{functions, steps}
 use Rattle.typing_rules.specs.AbstractSyntax.{Bytes, Expression, Patterns, Signature}
 use Rattle.typing_rules.specs.declared.condition.Condition.TheVariants as condition
@@ -34,7 +31,7 @@ use Rattle.typing_rules.specs.Nodes as counts
 use Rattle.typing_rules.specs.Signatures.{Taken, Parameters}
 use Rattle.typing_rules.specs.Terms.{Term, unit, unlisted}
 use Rattle.typing_rules.specs.Terms as t
-use Rattle.typing_rules.specs.TypedTrees.{Note, note, type_of, signature, count_patterns}
+use Rattle.typing_rules.specs.TypedTrees.{Note, signature, count_patterns}
 use Rattle.typing_rules.specs.Types.{ReadsOr}
 use Rattle.typing_rules.specs.TypeScopes.{TypeScope, places_of}
 use Rattle.typing_rules.specs.TypeScopes as scopes
@@ -42,20 +39,18 @@ use Rattle.desugaring.specs.Expressions.{tree as written_out, function_of, alone
 use Rattle.desugaring.specs.FreeNames.{names_in_each, without, occurring}
 use Rattle.desugaring.specs.Frames.{Unnamed, Frame, with_entries}
 use Rattle.desugaring.specs.Frames as frames
-use Rattle.desugaring.specs.Patterns.{patterns}
-use Rattle.desugaring_laws.specs.Known.{IsFine, IsKnown}
+use Rattle.desugaring_laws.specs.Known.{IsKnown}
 use Rattle.desugaring_laws.specs.Laws.{wants}
 use Rattle.desugaring_laws.specs.Names.{bound_in_each, entered}
-use Rattle.desugaring_laws.specs.Written.{EachIsWritten}
 use Rattle.desugaring_laws.specs.Scopes.{IsScopeFine, AreBoundsIn}
 use Rattle.desugaring_laws.specs.Yields.{Yields}
 use Rattle.desugaring_laws.proofs.Graph.{each_among, in_scope}
 use Rattle.desugaring_laws.proofs.Yielding.{more, tests, by_case, part as after}
 use Rattle.expression_laws.specs.Fitting.{Fits}
-use Rattle.expression_laws.specs.Results.{IsWantFine, Becomes, AreTyped}
+use Rattle.expression_laws.specs.Results.{Becomes, AreTyped}
 use Rattle.expression_laws.proofs.BoundNames.{names_bound_in_each}
 use Rattle.expression_laws.proofs.Calling.{one_result, parameters_known, results_scoped}
-use Rattle.expression_laws.proofs.Ending.{Setting, Place, Within, self, there, inside, value_of, as_wanted, Known, WantKnown, Is, Value, has, a_value, written}
+use Rattle.expression_laws.proofs.Ending.{Setting, Place, Within, self, there, as_wanted, Known, WantKnown, Is, Value, has, a_value, written}
 use Rattle.expression_laws.proofs.Heads.{made_fine, function_head, listed_back}
 use Rattle.expression_laws.proofs.Leaving.{reads_or}
 use Rattle.expression_laws.proofs.Naming.{names_of, with_pattern}

@@ -1,15 +1,14 @@
 -- What is known in the body of a function that is no shared one.
-use Rattle.std.proofs.Common.{◌≡◌, ◌⊎◌, inl, inr, ℕ, zero, suc, Bool, true, false, List, [], ◌∷◌, ◌++◌, map, Option, Some, None, refl, sym, ap, ◌∙◌, subst}
+use Rattle.std.proofs.Common.{◌≡◌, ℕ, zero, suc, Bool, true, false, List, [], ◌∷◌, ◌++◌, map, Some, None, refl, sym, ap, ◌∙◌, subst}
 use Rattle.std.specs.Prelude.{slice_get}
 use Rattle.mo_types.specs.declared.node.Sort.TheVariants as sort
 use Rattle.mo_types.specs.declared.node.TypeId.{TypeId}
 use Rattle.mo_types.specs.Graph.{Slot}
-use Rattle.subtype_laws.specs.Reached.{Among}
 use Rattle.typed_tree.specs.ActionTypes as typed
 use Rattle.typed_tree.specs.Typing.{Signature, in_body, with_names}
-use Rattle.typed_tree.specs.Wants.{Want, Of, CellOf, FutureOf, Generic, in_function}
+use Rattle.typed_tree.specs.Wants.{Want, in_function}
 use Rattle.typing_rules.specs.AbstractSyntax.{Bytes}
-use Rattle.typing_rules.specs.AsyncPlaces.{Body, Local, calls}
+use Rattle.typing_rules.specs.AsyncPlaces.{Body, Local}
 use Rattle.typing_rules.specs.Contexts.{Context, Bound, Label, value_named, with_types}
 use Rattle.typing_rules.specs.Contexts as rules
 use Rattle.typing_rules.specs.Definitions.{Definitions}
@@ -19,8 +18,8 @@ use Rattle.desugaring.specs.Frames.{Unnamed, Frame, Use, with_entries, found, ex
 use Rattle.desugaring.specs.Frames as frames
 use Rattle.desugaring_laws.specs.Known.{IsKnown}
 use Rattle.desugaring_laws.specs.Scopes.{IsScopeFine, AreBoundsIn}
-use Rattle.expression_laws.specs.Fitting.{StandsFor, AValue, ACell, AFuture, AGeneric, IsLabelled, IsReturned, Fits}
-use Rattle.expression_laws.proofs.Naming.{next, found_next}
+use Rattle.expression_laws.specs.Fitting.{StandsFor, AValue, ACell, AFuture, AGeneric, Fits}
+use Rattle.expression_laws.proofs.Naming.{found_next}
 use Rattle.function_laws.proofs.Weakening.{among_behind, among_between, known_more}
 
 got_mapped : {A B : Type 0} (g : A → B) (xs : List A) (n : ℕ) (x : A) → slice_get xs n ≡ Some x → slice_get (map g xs) n ≡ Some (g x)

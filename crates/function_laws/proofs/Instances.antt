@@ -1,13 +1,11 @@
 -- Instances of the types of functions with type parameters.
-use Rattle.std.proofs.Common.{◌≡◌, ◌≢◌, ◌⊎◌, inl, inr, ℕ, zero, suc, Bool, true, false, List, [], ◌∷◌, ◌++◌, length, map, Option, Some, None, refl, sym, ap, ap₂, ◌∙◌, subst, arith}
+use Rattle.std.proofs.Common.{◌≡◌, ◌≢◌, ◌⊎◌, inl, inr, ℕ, zero, suc, Bool, true, false, List, [], ◌∷◌, ◌++◌, length, map, Option, Some, None, refl, sym, ap, ◌∙◌, subst, arith}
 use Rattle.std.proofs.lemmas.Bool.{eqb-true}
 use Rattle.std.proofs.Math.Dec.{eqb-suc-suc}
 use Rattle.std.specs.Prelude.{cond, nat_eq, option_map}
-use Rattle.mo_num.specs.declared.kind.Kind.{Kind}
 use Rattle.mo_types.specs.declared.node.Field.{Field}
 use Rattle.mo_types.specs.declared.node.Node.{Node}
 use Rattle.mo_types.specs.declared.node.Node.TheVariants as node
-use Rattle.mo_types.specs.declared.node.Sort.{Sort}
 use Rattle.mo_types.specs.declared.node.Sort.TheVariants as sort
 use Rattle.mo_types.specs.declared.node.TypeId.{TypeId}
 use Rattle.mo_types.specs.Graph.{head_at}
@@ -18,14 +16,14 @@ use Rattle.subtype_laws.specs.Reached.{Among}
 use Rattle.typed_tree.specs.Instances.{IsAmong, field_types, types_in, ParameterAmong, Mentions, MentionsOnly, argument_of, FieldsAlike, FormsAlike, BecomesArgument, Becomes, PutIn, IsInstance, AreWithinBounds}
 use Rattle.typed_tree.specs.Shareable.{IsShareable, HasShareableForm, Shares}
 use Rattle.typed_tree.specs.Types.{IsLawfulNode}
-use Rattle.typed_tree.specs.Wants.{Below, Equal}
+use Rattle.typed_tree.specs.Wants.{Below}
 use Rattle.typing_rules.specs.Definitions.{bound_at}
 use Rattle.typing_rules.specs.Heads.{head}
 use Rattle.typing_rules.specs.Terms.{Term, put_in, argument_or_itself, with_arguments, zipped}
 use Rattle.typing_rules.specs.Terms as t
 use Rattle.desugaring_laws.specs.Known.{IsKnown}
 use Rattle.desugaring_laws.proofs.Graph.{head_number, parts_there, below_number, parameter_at}
-use Rattle.expression_laws.proofs.Ending.{Setting, self, trans, there}
+use Rattle.expression_laws.proofs.Ending.{Setting, self}
 use Rattle.function_laws.proofs.Putting.{IsParameterOf, IsFormOf, HasPlainResults, HasOneResult, put_head}
 
 -- ---- arguments

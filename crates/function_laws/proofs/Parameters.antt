@@ -1,17 +1,13 @@
 -- Parameters of functions.
-use Rattle.std.proofs.Common.{◌≡◌, ◌⊎◌, inl, inr, ℕ, Bool, true, false, List, [], ◌∷◌, ◌++◌, map, Option, Some, None, refl, sym, ap, ap₂, ◌∙◌, subst}
-use Rattle.mo_types.specs.declared.node.TypeId.{TypeId}
-use Rattle.mo_types.specs.Graph.{Slot, head_at}
+use Rattle.std.proofs.Common.{◌≡◌, ℕ, List, [], ◌∷◌, ◌++◌, map, Some, refl, ap₂, ◌∙◌, subst}
 use Rattle.mo_types.specs.Sub.{Each}
-use Rattle.subtype_laws.specs.Reached.{Among}
 use Rattle.typed_tree.specs.PatternTypes.{AllStand}
-use Rattle.typed_tree.specs.Wants.{Want, Of}
+use Rattle.typed_tree.specs.Wants.{Of}
 use Rattle.typing_rules.specs.declared.condition.Condition.TheVariants as condition
 use Rattle.typing_rules.specs.AbstractSyntax.{Bytes, Pattern, Patterns, TypeNode}
 use Rattle.typing_rules.specs.AbstractSyntax as p
 use Rattle.typing_rules.specs.Contexts.{Scope}
-use Rattle.typing_rules.specs.Definitions.{Definitions}
-use Rattle.typing_rules.specs.Judgements.{Judgement, Gives, Case, Given}
+use Rattle.typing_rules.specs.Judgements.{Gives, Case, Given}
 use Rattle.typing_rules.specs.Patterns.{Stands}
 use Rattle.typing_rules.specs.Signatures.{Taken, Parameters, first, others}
 use Rattle.typing_rules.specs.Terms.{Term}
@@ -19,14 +15,12 @@ use Rattle.typing_rules.specs.TypedTrees.{Note, annotation, pattern_place}
 use Rattle.typing_rules.specs.Types.{Reads}
 use Rattle.typing_rules.specs.TypeScopes.{TypeScope}
 use Rattle.desugaring.specs.FreeNames.{names_in, names_in_each}
-use Rattle.desugaring.specs.Patterns.{pattern, patterns}
-use Rattle.desugaring_laws.specs.GraphOf.{IsGraphOf}
+use Rattle.desugaring.specs.Patterns.{patterns}
 use Rattle.desugaring_laws.specs.Known.{IsKnown}
 use Rattle.desugaring_laws.specs.Laws.{wants, AreWrittenFine, PatternTyped}
-use Rattle.desugaring_laws.specs.Names.{Names, bound_names, bound_in_each, entered}
+use Rattle.desugaring_laws.specs.Names.{bound_names, bound_in_each, entered}
 use Rattle.desugaring_laws.specs.Written.{EachIsWritten}
 use Rattle.desugaring_laws.specs.Yields.{Yields}
-use Rattle.desugaring_laws.proofs.Graph.{reflexive}
 use Rattle.desugaring_laws.proofs.Patterns.{patterns_are_typed, beside, each_append, map_append}
 use Rattle.desugaring_laws.proofs.Yielding.{given, by_case, part as after}
 use Rattle.expression_laws.proofs.BoundNames.{names_kept, both}

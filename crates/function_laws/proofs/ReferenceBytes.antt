@@ -1,10 +1,9 @@
 -- The bytes that are read from the text of a principal are at most 29.
 use Rattle.std.proofs.Common.{◌≡◌, ◌≤◌, ◌<◌, ℕ, zero, suc, ◌+◌, ◌*◌, ◌/◌, Bool, true, false, List, [], ◌∷◌, ◌++◌, length, map, refl, sym, ap, ◌∙◌, subst, arith}
-use Rattle.std.proofs.Math.Dec.{eqb-suc-suc}
 use Rattle.std.proofs.Math.Nat.{div-add-mod}
-use Rattle.std.proofs.lemmas.Bool.{eqb-true, ltb-true, lt-ltb}
-use Rattle.std.specs.Prelude.{cond, nat_eq, nat_lt, drop, ◌%◌, ◌-◌, ◌^◌, if◌then◌else◌}
-use Rattle.mo_num.specs.PrincipalText.{IsPrincipal, with_checksum, number, IsBase32, letter, grouped, shown, IsTextOf}
+use Rattle.std.proofs.lemmas.Bool.{eqb-true, lt-ltb}
+use Rattle.std.specs.Prelude.{cond, nat_eq, nat_lt, drop, ◌%◌, ◌-◌, if◌then◌else◌}
+use Rattle.mo_num.specs.PrincipalText.{IsPrincipal, letter, grouped, shown, IsTextOf}
 use Rattle.mo_num.proofs.PrincipalTexts.{checksum_length}
 use Rattle.mo_types.specs.Sub.{Each}
 use Rattle.desugaring.specs.PrincipalBytes.{digits, bytes_of, decoded, principal_bytes}

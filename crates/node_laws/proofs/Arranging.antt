@@ -1,5 +1,5 @@
 -- What the steps of a list come to: each function is placed once.
-use Rattle.std.proofs.Common.{◌≡◌, ◌≤◌, ℕ, zero, suc, ◌+◌, Bool, true, false, List, [], ◌∷◌, ◌++◌, length, map, Option, Some, None, refl, sym, ap, ◌∙◌, subst, arith}
+use Rattle.std.proofs.Common.{◌≡◌, ◌≤◌, ℕ, zero, suc, ◌+◌, Bool, true, false, List, [], ◌∷◌, ◌++◌, map, Option, Some, None, refl, sym, ap, subst, arith}
 use Rattle.std.proofs.Math.Dec.{eqb-suc-zero, eqb-zero-suc, eqb-suc-suc}
 use Rattle.std.specs.Prelude.{cond, nat_eq, filter, flat_map}
 use Rattle.typed_tree.specs.declared.expression.Form.TheOpen as F
@@ -9,7 +9,7 @@ use Rattle.typed_tree.specs.declared.expression.TypedExpression.{TypedExpression
 use Rattle.typed_tree.specs.Nodes.{StepNodes, total, in_expression, in_step}
 use Rattle.typed_tree.specs.Placing.{Declared, place}
 use Rattle.desugaring.specs.Frames.{Frame, with_entries}
-use Rattle.desugaring.specs.Pieces.{Becomes, AStep, AFunction, AnExpression, Nothing, Piece, Arranged, Named, before, function_of, group_at, names_of, group_steps, behind_group, ended, placed_piece, is_end, arranged_from, arranged}
+use Rattle.desugaring.specs.Pieces.{Becomes, AStep, AFunction, AnExpression, Nothing, Piece, Arranged, Named, before, function_of, group_at, names_of, group_steps, ended, placed_piece, is_end, arranged_from, arranged}
 
 -- functions of this number of nodes, each with its own
 abbrev pub each : (Function → ℕ) → List Function → ℕ

@@ -10,7 +10,7 @@ use Rattle.typed_tree.specs.declared.expression.Form.TheOpen as F
 use Rattle.typed_tree.specs.declared.expression.Step.{Step, roll-Step, fold-roll-Step}
 use Rattle.typed_tree.specs.declared.expression.Case.{Case, fold-Case, roll-Case, fold-roll-Case}
 use Rattle.typed_tree.specs.declared.expression.Function.{Function, fold-Function, roll-Function, fold-roll-Function}
-use Rattle.typed_tree.specs.declared.expression.TypedExpression.{TypedExpression, roll-TypedExpression, fold-roll-TypedExpression}
+use Rattle.typed_tree.specs.declared.expression.TypedExpression.{TypedExpression, fold-roll-TypedExpression}
 use Rattle.typed_tree.specs.Nodes.{StepNodes, form_step, step_step, case_step, function_step, expression_step, total, in_pattern, in_patterns, in_expression, in_step}
 use Rattle.desugaring.specs.Nodes.{Layer, node_of}
 

@@ -1,5 +1,5 @@
 -- The nodes of patterns.
-use Rattle.std.proofs.Common.{◌≡◌, ◌≤◌, ℕ, suc, ◌+◌, ◌*◌, List, [], ◌∷◌, ◌++◌, length, map, refl, ap, ◌∙◌, arith}
+use Rattle.std.proofs.Common.{◌≡◌, ◌≤◌, ◌+◌, ◌*◌, List, [], ◌∷◌, ◌++◌, length, map, refl, ap, ◌∙◌, arith}
 use Rattle.mo_types.specs.declared.node.TypeId.{TypeId}
 use Rattle.typed_tree.specs.declared.literal.Literal.{Literal}
 use Rattle.typed_tree.specs.declared.literal.Literal.TheVariants as literal
@@ -8,7 +8,7 @@ use Rattle.typed_tree.specs.declared.pattern.PatternForm.{PatternForm, roll-Patt
 use Rattle.typed_tree.specs.declared.pattern.PatternForm.TheOpen as P
 use Rattle.typed_tree.specs.declared.pattern.PatternField.{PatternField, roll-PatternField}
 use Rattle.typed_tree.specs.Nodes.{in_pattern, in_patterns}
-use Rattle.typed_tree.specs.Patterns.{Pat, Wildcard, Bind, Present?, Tagged, Parts, Fields, Either, pattern_nodes, nodes_of_all}
+use Rattle.typed_tree.specs.Patterns.{Pat, pattern_nodes, nodes_of_all}
 use Rattle.typed_tree.specs.PatternView.{LabelledPat, pattern, pattern_form, pats, literal_pattern, form_step, field_step, pattern_step}
 use Rattle.typed_tree.specs.ViewLaws.{field}
 use Rattle.typed_tree.proofs.Views.{pattern_views}

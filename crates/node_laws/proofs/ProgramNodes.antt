@@ -1,5 +1,5 @@
 -- The nodes of the declarations of a program, without the parameters and bodies of functions.
-use Rattle.std.proofs.Common.{◌≡◌, ◌≤◌, ℕ, suc, ◌+◌, ◌*◌, Bool, true, false, List, [], ◌∷◌, length, map, Option, Some, None, refl, ap, ◌∙◌, arith}
+use Rattle.std.proofs.Common.{◌≡◌, ℕ, suc, ◌*◌, true, false, List, [], ◌∷◌, length, map, refl, ap, ◌∙◌, arith}
 use Rattle.mo_types.specs.declared.node.TypeId.{TypeId}
 use Rattle.typed_tree.specs.declared.expression.Form.TheOpen as F
 use Rattle.typed_tree.specs.declared.expression.Function.{Function}
@@ -12,9 +12,9 @@ use Rattle.typing_rules.specs.Definitions.{Definitions}
 use Rattle.typing_rules.specs.Terms.{Term}
 use Rattle.typing_rules.specs.TypedTrees.{Note}
 use Rattle.desugaring.specs.Expressions.{bound, object_of_names, public_names, pieces, becomes, tree}
-use Rattle.desugaring.specs.Frames.{Frame, kept_at}
+use Rattle.desugaring.specs.Frames.{kept_at}
 use Rattle.desugaring.specs.Patterns as made
-use Rattle.desugaring.specs.Pieces.{Arranged, arranged}
+use Rattle.desugaring.specs.Pieces.{arranged}
 use Rattle.desugaring.specs.Programs.{own_nodes, own_nodes_of, around}
 use Rattle.node_laws.specs.Laws.{FunctionsAreCovered, ProgramsAreCovered}
 use Rattle.node_laws.proofs.Arranging.{each, sum}

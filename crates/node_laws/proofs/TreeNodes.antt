@@ -1,5 +1,5 @@
 -- What is written out has at most four times as many nodes as what is written.
-use Rattle.std.proofs.Common.{◌≡◌, ◌≤◌, ℕ, suc, ◌+◌, ◌*◌, Bool, true, false, List, [], ◌∷◌, ◌++◌, length, map, Option, Some, None, refl, sym, ap, ◌∙◌, subst, arith}
+use Rattle.std.proofs.Common.{◌≡◌, ◌≤◌, ℕ, suc, ◌+◌, ◌*◌, Bool, true, false, List, [], ◌∷◌, length, map, Option, Some, None, refl, ap, ◌∙◌, arith}
 use Rattle.mo_syntax.specs.declared.operators.BinaryOperator.{BinaryOperator}
 use Rattle.mo_syntax.specs.declared.operators.BinaryOperator.TheVariants as sign
 use Rattle.mo_types.specs.declared.node.Node.{Node}
@@ -26,7 +26,7 @@ use Rattle.typing_rules.specs.Terms.{Term, unit}
 use Rattle.typing_rules.specs.Terms as t
 use Rattle.typing_rules.specs.TypedTrees.{Note, Typed, type_of, count}
 use Rattle.typing_rules.specs.Expressions.{element_of}
-use Rattle.desugaring.specs.Expressions.{is_mutable, field_of, part_or, labels_of, or_else, public_names, block_of, object_operands, object_of_names, call_of, member_of, element_at, new_cell, tuple_of, negative_of, field_value, function_of, alone, bound, leaves, tree, form, trees, case_trees, field_trees, cell_tree, assigned, looped, pieces, becomes}
+use Rattle.desugaring.specs.Expressions.{is_mutable, field_of, part_or, labels_of, or_else, public_names, block_of, object_operands, object_of_names, call_of, member_of, element_at, new_cell, tuple_of, negative_of, function_of, alone, bound, tree, form, trees, case_trees, field_trees, cell_tree, assigned, looped, pieces, becomes}
 use Rattle.desugaring.specs.FreeNames.{names_in, names_in_each, field_names}
 use Rattle.desugaring.specs.Frames.{Unnamed, Frame, Use, with_entries, with_names, with_exit, in_function, found, kept_at, Continued, Labelled, Optional, is_label, is_continued, is_optional, is_returned, exit}
 use Rattle.desugaring.specs.Nodes.{literal_at, built_in, array_method, text_method, scalar_of, at, acts, operates, unit_value, flag, kind_of, held, named, operation, binary}

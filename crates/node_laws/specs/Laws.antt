@@ -1,5 +1,5 @@
 -- Nodes of what is written out, and of what is written.
-use Rattle.std.specs.Prelude.{ℕ, ◌+◌, List}
+use Rattle.std.specs.Prelude.{◌+◌, List}
 use Rattle.mo_types.specs.declared.node.TypeId.{TypeId}
 use Rattle.mo_types.specs.Graph.{Slot}
 use Rattle.typed_tree.specs.Nodes.{in_expression, in_patterns, in_list}
