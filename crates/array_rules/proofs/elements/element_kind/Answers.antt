@@ -1,0 +1,22 @@
+use Rattle.std.proofs.Common.{◌∙◌, List, subst, sym}
+use Rattle.mo_types.specs.Sub.{Each}
+use Rattle.type_terms.specs.declared.form.TermId.{TermId}
+use Rattle.met_types.specs.States.{IsReached}
+use Rattle.judging.specs.Views.{term_in}
+use Rattle.judging.proofs.Chains.{no_memory}
+use Rattle.data_parts.proofs.TypesOf.{kinds_reached}
+use Rattle.array_rules.specs.Within.{is_within}
+use Rattle.array_rules.proofs.AllElements.{elements_are}
+use Rattle.array_rules.proofs.elements.element_kind.Goals as goal
+
+pub greatest_or_none-requires-clause-kinds : goal.greatest_or_none-requires-clause-kinds
+greatest_or_none-requires-clause-kinds c =
+    subst (λ (ids : List TermId). Each (IsReached c.args.checker.now.types) ids) (sym c.as_slice.ensures)
+    (subst (λ (ids : List TermId). Each (IsReached c.args.checker.now.types) ids) (sym c.in_ok-kinds.ensures) (kinds_reached c.args.checker.now c.args.elements.now c.requires.elements))
+
+pub returns-in_err-kinds-clause-answer : goal.returns-in_err-kinds-clause-answer
+returns-in_err-kinds-clause-answer c = λ s q. no_memory term_in is_within _ s s c.args.checker.now _ c.from_residual.result c.from_residual.ensures
+
+pub returns-clause-answer : goal.returns-clause-answer
+returns-clause-answer c = λ s q.
+    elements_are c.args.elements.now c.as_slice.result.now (c.as_slice.ensures ∙ c.in_ok-kinds.ensures) c.args.place s c.args.checker.now c.greatest_or_none.new.checker c.greatest_or_none.result (c.greatest_or_none.ensures.answer s q)

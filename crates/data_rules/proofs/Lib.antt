@@ -1,0 +1,3 @@
+pub mod ByTuple
+pub mod ByOption
+pub mod ByVariant
