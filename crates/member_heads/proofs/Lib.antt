@@ -1,0 +1,3 @@
+pub mod Promoting
+pub mod HeadParts
+pub mod ByMembers

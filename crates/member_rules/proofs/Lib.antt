@@ -1,0 +1,4 @@
+pub mod Parted
+pub mod HeadMembers
+pub mod BuiltIns
+pub mod ValueMembers

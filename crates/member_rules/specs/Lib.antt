@@ -1,0 +1,2 @@
+pub mod MemberKinds
+pub mod ValueRules

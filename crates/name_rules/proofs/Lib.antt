@@ -1,0 +1,3 @@
+pub mod NoNames
+pub mod FutureTypes
+pub mod Naming
