@@ -1,0 +1,4 @@
+pub mod Texts
+pub mod Deciding
+pub mod ByHeads
+pub mod Pairing

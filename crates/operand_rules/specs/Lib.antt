@@ -1,0 +1,5 @@
+pub mod Families
+pub mod Heads
+pub mod Literals
+pub mod Steps
+pub mod Pairs

@@ -1,0 +1,5 @@
+pub mod Joining
+pub mod Numbers
+pub mod Comparisons
+pub mod Opposites
+pub mod RightSides
