@@ -1,0 +1,3 @@
+pub mod Answered
+pub mod Under
+pub mod Written
