@@ -1,0 +1,2 @@
+pub mod ActorTexts
+pub mod Annotating

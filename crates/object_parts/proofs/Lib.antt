@@ -1,0 +1,2 @@
+pub mod FieldParts
+pub mod WrittenFields
