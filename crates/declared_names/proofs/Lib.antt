@@ -1,0 +1,2 @@
+mod DeclaredNames
+pub mod Entering
