@@ -1,6 +1,5 @@
 -- Calls, where what is called may have type parameters.
 use Rattle.std.proofs.Common.{◌≡◌, ◌≢◌, inl, inr, ℕ, suc, true, List, [], ◌∷◌, ◌++◌, length, map, Option, Some, None, refl, sym, ap, ◌∙◌, subst, arith}
-use Rattle.std.proofs.lemmas.Bool.{eqb-true}
 use Rattle.std.specs.Option.{option_and_then}
 use Rattle.std.specs.Prelude.{nat_eq, slice_get}
 use Rattle.mo_num.specs.declared.kind.Kind.TheVariants as kind
@@ -45,13 +44,10 @@ use Rattle.expression_laws.specs.Fitting.{StandsFor, AValue, ACell, AFuture, AGe
 use Rattle.expression_laws.proofs.Calling.{called_typed}
 use Rattle.expression_laws.proofs.Ending.{Setting, Place, Within, IsTypedPart, IsPart, part_fits, there, value_of, Known, WantKnown, Is, Tree, Value, a_value, acts, written}
 use Rattle.expression_laws.proofs.Heads.{number_head, number_fine, array_head, mutable_array_head, made_fine}
-use Rattle.expression_laws.proofs.Listed.{EachTyping}
+use Rattle.expression_laws.proofs.Listed.{same_number, EachTyping}
 use Rattle.expression_laws.proofs.Members.{function_at, function_there}
 use Rattle.expression_laws.proofs.Simple.{only}
-use Rattle.function_laws.proofs.Instances.{instance_seen, instance_known, within_bounds}
-
-same_number : (m n : ℕ) → nat_eq m n ≡ true → m ≡ n
-same_number m n h = eqb-true m n h
+use Rattle.function_laws.proofs.Instances.{length_map, instance_seen, instance_known, within_bounds}
 
 -- what is called by a name is one of these
 data IsGeneric (e : Context) : Expression ℕ → Bound × Form Note → Type 0 where
@@ -211,14 +207,10 @@ module _ (S : Setting) (A : Place S) where
           a_value S A (with_arguments (zipped b.generics us) b.type) known_put (F.Name (found A.frame x).index) (
             Generic b.generics (S.number b.type),
             at_x ∙ ap (λ z. Some z) h,
-            (map S.number us, S.number (with_arguments (zipped b.generics us) b.type), length_map us ∙ i.many, within_bounds S b.generics us i.many met i.bounded, instance_seen S b.generics us i.many met b.type k.there there_put, refl),
+            (map S.number us, S.number (with_arguments (zipped b.generics us) b.type), length_map S.number us ∙ i.many, within_bounds S b.generics us i.many met i.bounded, instance_seen S b.generics us i.many met b.type k.there there_put, refl),
           ) in
           subst (λ z. Value S A u (held S.defs S.number u z (at S.defs S.number u (F.Name (found A.frame x).index)))) (sym c)
           (subst (λ z. Value S A z (at S.defs S.number z (F.Name (found A.frame x).index))) (sym i.same) value)
-        where
-          length_map : (us : List Term) → length (map S.number us) ≡ length us
-          length_map [] = refl
-          length_map (u ∷ us) = ap suc (length_map us)
 
   -- ---- built-in functions with a type parameter
 

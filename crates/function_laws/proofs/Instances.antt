@@ -28,7 +28,7 @@ use Rattle.function_laws.proofs.Putting.{IsParameterOf, IsFormOf, HasPlainResult
 
 -- ---- arguments
 
-eqb-self : (n : ℕ) → nat_eq n n ≡ true
+pub eqb-self : (n : ℕ) → nat_eq n n ≡ true
 eqb-self zero = refl
 eqb-self (suc n) = eqb-suc-suc n n ∙ eqb-self n
 
@@ -307,7 +307,7 @@ future_put g (node.Func s ps rs) h = refl
 future_put g (node.Async a) h = cc
 future_put g (node.Variable v b) h = refl
 
-length_map : {A B : Type 0} (g : A → B) (xs : List A) → length (map g xs) ≡ length xs
+pub length_map : {A B : Type 0} (g : A → B) (xs : List A) → length (map g xs) ≡ length xs
 length_map g [] = refl
 length_map g (x ∷ xs) = ap suc (length_map g xs)
 

@@ -1,6 +1,5 @@
 -- A list whose declarations are typed by themselves, and whose names are used where they stand, is typed in the order of evaluation.
 use Rattle.std.proofs.Common.{◌≡◌, ◌⊎◌, inl, inr, ℕ, zero, suc, ◌<◌, Bool, true, false, List, [], ◌∷◌, ◌++◌, length, map, Option, Some, None, refl, sym, ap, ◌∙◌, subst, arith}
-use Rattle.std.proofs.Math.Dec.{eqb-suc-suc}
 use Rattle.std.proofs.lemmas.Bool.{eqb-true}
 use Rattle.std.proofs.lemmas.Slice.Eq.{bytes_eq-Decides}
 use Rattle.std.specs.Prelude.{cond, nat_eq, filter, flat_map}
@@ -28,16 +27,13 @@ use Rattle.desugaring.specs.Frames.{Entry, value, Frame, Use, with_entries, foun
 use Rattle.desugaring.specs.Pieces.{Becomes, AStep, AFunction, AnExpression, Nothing, Piece, Named, function_of, group_at, names_of, is_end, arranged_from}
 use Rattle.expression_laws.specs.Fitting.{StandsFor}
 use Rattle.expression_laws.proofs.Naming.{next, found_next, same_bytes}
+use Rattle.function_laws.proofs.Instances.{eqb-self}
 use Rattle.list_laws.specs.Facts.{Fact, Evaluates, IsFunction, Other, scope_at, DefinedBefore, FunctionBefore, nth}
 use Rattle.list_laws.specs.Facts as facts_of
 use Rattle.list_laws.specs.Laws.{Walked, ListsAreTyped}
 use Rattle.list_laws.specs.Standing.{entry_names, StandsAt, StandsIn}
 use Rattle.list_laws.proofs.Reaching.{stands_beyond}
 use Rattle.list_laws.proofs.Stages as stages
-
-eqb-self : (n : ℕ) → nat_eq n n ≡ true
-eqb-self zero = refl
-eqb-self (suc n) = eqb-suc-suc n n ∙ eqb-self n
 
 lt_or_eq : (p n : ℕ) → p < suc n → (p < n) ⊎ (p ≡ n)
 lt_or_eq p n h = by (nat_eq p n) refl where
@@ -136,11 +132,11 @@ module _ (defs : Definitions) (slots : List Slot) (terms : List Term) (number : 
     abbrev Last : TypedExpression → Context → Type 0
     Last e d = Typed slots e d of_list
 
-    abbrev IsFact : ℕ → Declared → Becomes → Fact → Type 0
-    IsFact = facts_of.IsFact defs slots terms number body base f0 c0 outer facts all of_list
+    abbrev IsFact : ℕ → Bool → Declared → Becomes → Fact → Type 0
+    IsFact = facts_of.IsFact defs slots terms number body base f0 c0 outer facts all pieces has_value of_list
 
     abbrev AreFacts : ℕ → List Piece → List Fact → Type 0
-    AreFacts = facts_of.AreFacts defs slots terms number body base f0 c0 outer facts all of_list
+    AreFacts = facts_of.AreFacts defs slots terms number body base f0 c0 outer facts all pieces has_value of_list
 
     abbrev FunctionFact : Declared → Bytes → (Frame → Function) → Bytes → ℕ → Bound → Want TypeId → Type 0
     FunctionFact = facts_of.FunctionFact defs slots terms number body base f0 c0 outer facts all
@@ -162,7 +158,7 @@ module _ (defs : Definitions) (slots : List Slot) (terms : List Term) (number : 
         same y (inr (inl m)) = inr (inl (defined_same n y facts x e none m))
         same y (inr (inr m)) = inr (inr m)
 
-    passes : (n : ℕ) (last : Bool) (d : Declared) (b : Becomes) (x : Fact) → nth n facts ≡ Some x → IsFact n d b x → stages.Passes slots all pieces has_value At of_list n last b
+    passes : (n : ℕ) (last : Bool) (d : Declared) (b : Becomes) (x : Fact) → nth n facts ≡ Some x → IsFact n last d b x → stages.Passes slots all pieces has_value At of_list n last b
     passes n last d (AStep binds step) (Evaluates xs s) e i = λ f c h.
         let q = i.typed f c (around_at (suc n) n f c h d.occurs i.there) in (
           q.0,
@@ -192,7 +188,7 @@ module _ (defs : Definitions) (slots : List Slot) (terms : List Term) (number : 
             stands_beyond defs slots terms number vs body binds f.names ns c.names y b (λ m. absent (subst (λ z. Among y z) i.names m)) many
             (h.stand y (earlier y absent r) b (sym (i.others y absent (scope_at n facts base)) ∙ (ap (λ z. named z y) (sym (scope_next n facts base xs s e)) ∙ k)))
     passes n last d (AFunction y g) (IsFunction x p b w) e i = λ f c h. stays n (IsFunction x p b w) e tt f c h
-    passes n true d (AnExpression v) Other e i = λ f c h. i.last f c (around_at (suc n) n f c h d.occurs i.there)
+    passes n true d (AnExpression v) Other e i = λ f c h. i.typed f c (around_at (suc n) n f c h d.occurs i.there)
     passes n false d (AnExpression v) Other e i = λ f c h. (i.typed f c (around_at (suc n) n f c h d.occurs i.there), stays n Other e tt f c h)
     passes n last d Nothing Other e i = λ f c h. stays n Other e tt f c h
     passes n last d (AStep binds step) (IsFunction x p b w) e i = absurd i
@@ -226,9 +222,6 @@ module _ (defs : Definitions) (slots : List Slot) (terms : List Term) (number : 
     abbrev group : ℕ → List Piece → List Named
     group n bs = flat_map (λ b. function_of b.becomes) (chosen n bs)
 
-    abbrev IsFactAt : ℕ → Piece → Fact → Type 0
-    IsFactAt n b x = IsFact n b.declared b.becomes x
-
     abbrev cut : ℕ → Piece → List Piece → List Piece
     cut n b rest = cond (nat_eq (place all b.declared) n) (b ∷ rest) rest
 
@@ -239,31 +232,31 @@ module _ (defs : Definitions) (slots : List Slot) (terms : List Term) (number : 
       by_piece [] [] m h = none
       by_piece [] (x ∷ xs) m h = absurd h
       by_piece (b ∷ bs) [] m h = absurd h
-      by_piece (b ∷ bs) (x ∷ xs) m h = on (nat_eq (place all b.declared) n) refl b.becomes x refl h.1 (by_piece bs xs (suc m) h.2) where
+      by_piece (b ∷ bs) (x ∷ xs) m h = on (nat_eq (place all b.declared) n) refl (is_end all pieces has_value bs) b.becomes x refl h.1 (by_piece bs xs (suc m) h.2) where
         skipped : (t : Bool) (e : Becomes) → function_of e ≡ [] → P (group n bs) (wants_at n xs) → P (flat_map (λ z. function_of z.becomes) (cond t (record b { becomes = e } ∷ chosen n bs) (chosen n bs))) (wants_at n xs)
         skipped true e q k = subst (λ fs. P (fs ++ group n bs) (wants_at n xs)) (sym q) k
         skipped false e q k = k
 
-        on : (t : Bool) → nat_eq (place all b.declared) n ≡ t → (e : Becomes) (z : Fact) → b.becomes ≡ e → IsFact m b.declared e z → P (group n bs) (wants_at n xs)
+        on : (t : Bool) → nat_eq (place all b.declared) n ≡ t → (l : Bool) (e : Becomes) (z : Fact) → b.becomes ≡ e → IsFact m l b.declared e z → P (group n bs) (wants_at n xs)
             → P (flat_map (λ z. function_of z.becomes) (cond (nat_eq (place all b.declared) n) (record b { becomes = e } ∷ chosen n bs) (chosen n bs))) (wants_at n (z ∷ xs))
-        on t q (AStep binds step) (Evaluates ys s) a i k = skipped (nat_eq (place all b.declared) n) (AStep binds step) refl k
-        on t q (AnExpression v) Other a i k = skipped (nat_eq (place all b.declared) n) (AnExpression v) refl k
-        on t q Nothing Other a i k = skipped (nat_eq (place all b.declared) n) Nothing refl k
-        on t q (AFunction y g) (IsFunction x' p b' w) a i k =
+        on t q l (AStep binds step) (Evaluates ys s) a i k = skipped (nat_eq (place all b.declared) n) (AStep binds step) refl k
+        on t q l (AnExpression v) Other a i k = skipped (nat_eq (place all b.declared) n) (AnExpression v) refl k
+        on t q l Nothing Other a i k = skipped (nat_eq (place all b.declared) n) Nothing refl k
+        on t q l (AFunction y g) (IsFunction x' p b' w) a i k =
             subst (λ r. P (flat_map (λ z. function_of z.becomes) (cond (nat_eq (place all b.declared) n) (record b { becomes = AFunction y g } ∷ chosen n bs) (chosen n bs))) (cond r (w ∷ wants_at n xs) (wants_at n xs))) (ap (λ r. nat_eq r n) i.place_is)
             (subst (λ r. P (flat_map (λ z. function_of z.becomes) (cond r (record b { becomes = AFunction y g } ∷ chosen n bs) (chosen n bs))) (cond r (w ∷ wants_at n xs) (wants_at n xs))) (sym q) (taken t q))
           where
             taken : (t : Bool) → nat_eq (place all b.declared) n ≡ t → P (flat_map (λ z. function_of z.becomes) (cond t (record b { becomes = AFunction y g } ∷ chosen n bs) (chosen n bs))) (cond t (w ∷ wants_at n xs) (wants_at n xs))
             taken true q = one m b y g x' b' w a (subst (λ r. FunctionFact b.declared y g x' r b' w) (sym i.place_is ∙ eqb-true (place all b.declared) n q) i) (group n bs) (wants_at n xs) k
             taken false q = k
-        on t q (AStep binds step) (IsFunction x' p b' w) a i k = absurd i
-        on t q (AStep binds step) Other a i k = absurd i
-        on t q (AFunction y g) (Evaluates ys s) a i k = absurd i
-        on t q (AFunction y g) Other a i k = absurd i
-        on t q (AnExpression v) (Evaluates ys s) a i k = absurd i
-        on t q (AnExpression v) (IsFunction x' p b' w) a i k = absurd i
-        on t q Nothing (Evaluates ys s) a i k = absurd i
-        on t q Nothing (IsFunction x' p b' w) a i k = absurd i
+        on t q l (AStep binds step) (IsFunction x' p b' w) a i k = absurd i
+        on t q l (AStep binds step) Other a i k = absurd i
+        on t q l (AFunction y g) (Evaluates ys s) a i k = absurd i
+        on t q l (AFunction y g) Other a i k = absurd i
+        on t q l (AnExpression v) (Evaluates ys s) a i k = absurd i
+        on t q l (AnExpression v) (IsFunction x' p b' w) a i k = absurd i
+        on t q l Nothing (Evaluates ys s) a i k = absurd i
+        on t q l Nothing (IsFunction x' p b' w) a i k = absurd i
 
     -- ---- what stands around behind a group
 
@@ -336,7 +329,7 @@ module _ (defs : Definitions) (slots : List Slot) (terms : List Term) (number : 
     in_group n y (b ∷ bs) (Other ∷ xs) m h q = behind_one n (nat_eq (place all b.declared) n) b bs y (in_group n y bs xs (suc m) h.2 q)
     in_group n y (b ∷ bs) (IsFunction x p c w ∷ xs) m h (inr q) = behind_one n (nat_eq (place all b.declared) n) b bs y (in_group n y bs xs (suc m) h.2 q)
     in_group n y (b ∷ bs) (IsFunction x p c w ∷ xs) m h (inl q) = by b.becomes refl h.1 where
-      by : (e : Becomes) → b.becomes ≡ e → IsFact m b.declared e (IsFunction x p c w) → Among y (first (group n (b ∷ bs)))
+      by : (e : Becomes) → b.becomes ≡ e → IsFact m (is_end all pieces has_value bs) b.declared e (IsFunction x p c w) → Among y (first (group n (b ∷ bs)))
       by (AStep binds step) a i = absurd i
       by (AnExpression v) a i = absurd i
       by Nothing a i = absurd i

@@ -1,5 +1,5 @@
 -- What is known of each declaration of a list before its parts are put in order.
-use Rattle.std.specs.Prelude.{◌≡◌, ◌⊎◌, ◌<◌, ℕ, zero, suc, false, List, [], ◌∷◌, ◌++◌, length, Option, Some, None}
+use Rattle.std.specs.Prelude.{◌≡◌, ◌⊎◌, ◌<◌, ℕ, zero, suc, Bool, true, false, List, [], ◌∷◌, ◌++◌, length, Option, Some, None}
 use Rattle.mo_scopes.specs.Scopes.{named}
 use Rattle.mo_types.specs.declared.node.Sort.TheVariants as sort
 use Rattle.mo_types.specs.declared.node.TypeId.{TypeId}
@@ -18,7 +18,7 @@ use Rattle.typing_rules.specs.Contexts.{Bound, Scope}
 use Rattle.typing_rules.specs.Definitions.{Definitions}
 use Rattle.typing_rules.specs.Terms.{Term}
 use Rattle.desugaring.specs.Frames.{Entry, Frame}
-use Rattle.desugaring.specs.Pieces.{Becomes, AStep, AFunction, AnExpression, Nothing, Piece}
+use Rattle.desugaring.specs.Pieces.{Becomes, AStep, AFunction, AnExpression, Nothing, Piece, is_end}
 use Rattle.expression_laws.specs.Fitting.{StandsFor}
 use Rattle.list_laws.specs.Standing.{entry_names, StandsIn}
 
@@ -106,22 +106,25 @@ module _ (defs : Definitions) (slots : List Slot) (terms : List Term) (number : 
     pub there : (z : Bytes) → Among z d.occurs → Reach (suc p) p z × (named (scope_at (length facts) facts base) z ≡ named (scope_at p facts base) z)
     pub typed : (f : Frame) (c : Context) → Around d.occurs (scope_at (length facts) facts base) f c → IsFunctionOf slots (g f) c signature
 
-  pub record ValueFact (of_list : Want TypeId) (n : ℕ) (uses : List Bytes) (e : Frame → TypedExpression) : Type 0 where
-    pub there : (y : Bytes) → Among y uses → Reach (suc n) n y
-    pub typed : (f : Frame) (c : Context) → Around uses (scope_at n facts base) f c → (w : Want TypeId) × Typed slots (e f) c w
-    pub last : (f : Frame) (c : Context) → Around uses (scope_at n facts base) f c → Typed slots (e f) c of_list
+  -- an expression serves where the value of the list is to serve, if it is its last, and else anywhere
+  abbrev pub Gives : Bool → Want TypeId → TypedExpression → Context → Type 0
+  Gives true of_list e c = Typed slots e c of_list
+  Gives false of_list e c = (w : Want TypeId) × Typed slots e c w
 
-  -- where the value of the list is to serve here
-  module _ (all : List Declared) (of_list : Want TypeId) where
-    abbrev pub IsFact : ℕ → Declared → Becomes → Fact → Type 0
-    IsFact n d (AStep binds step) (Evaluates xs s) = StepFact n d.occurs binds step xs s
-    IsFact n d (AFunction y g) (IsFunction x p b w) = FunctionFact all d y g x p b w
-    IsFact n d (AnExpression e) Other = ValueFact of_list n d.occurs e
-    IsFact n d Nothing Other = Unit {0}
-    IsFact n d _ _ = ⊥
+  pub record ValueFact (of_list : Want TypeId) (n : ℕ) (is_last : Bool) (uses : List Bytes) (e : Frame → TypedExpression) : Type 0 where
+    pub there : (y : Bytes) → Among y uses → Reach (suc n) n y
+    pub typed : (f : Frame) (c : Context) → Around uses (scope_at n facts base) f c → Gives is_last of_list (e f) c
+
+  module _ (all : List Declared) (pieces : List Piece) (has_value : Bool) (of_list : Want TypeId) where
+    abbrev pub IsFact : ℕ → Bool → Declared → Becomes → Fact → Type 0
+    IsFact n is_last d (AStep binds step) (Evaluates xs s) = StepFact n d.occurs binds step xs s
+    IsFact n is_last d (AFunction y g) (IsFunction x p b w) = FunctionFact all d y g x p b w
+    IsFact n is_last d (AnExpression e) Other = ValueFact of_list n is_last d.occurs e
+    IsFact n is_last d Nothing Other = Unit {0}
+    IsFact n is_last d _ _ = ⊥
 
     -- the pieces from the n-th on, with their facts
     abbrev pub AreFacts : ℕ → List Piece → List Fact → Type 0
     AreFacts n [] [] = Unit {0}
-    AreFacts n (b ∷ bs) (x ∷ xs) = (nth n facts ≡ Some x) × IsFact n b.declared b.becomes x × AreFacts (suc n) bs xs
+    AreFacts n (b ∷ bs) (x ∷ xs) = (nth n facts ≡ Some x) × IsFact n (is_end all pieces has_value bs) b.declared b.becomes x × AreFacts (suc n) bs xs
     AreFacts n _ _ = ⊥

@@ -34,6 +34,6 @@ module _ (slots : List Slot) (pieces : List Piece) (There : ℕ → ℕ → Fram
 abbrev pub ListsAreTyped : Type 0
 ListsAreTyped =
     (defs : Definitions) (slots : List Slot) (terms : List Term) (number : Term → TypeId) (body : Body) (base : Scope) (f : Frame) (c : Context) (outer : List Bytes) (facts : List Fact) (pieces : List Piece)
-    (has_value : Bool) (of_list : Want TypeId) → AreFacts defs slots terms number body base f c outer facts (map (λ b. b.declared) pieces) of_list zero pieces facts
+    (has_value : Bool) (of_list : Want TypeId) → AreFacts defs slots terms number body base f c outer facts (map (λ b. b.declared) pieces) pieces has_value of_list zero pieces facts
     → ((y : Bytes) → Among y outer → (b : Bound) → named base y ≡ Some b → Stands defs slots terms number body base f c outer facts f c y b)
     → Walked slots pieces (At defs slots terms number body base f c outer facts) of_list (arranged has_value pieces f) c
