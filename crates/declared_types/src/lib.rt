@@ -4,5 +4,5 @@
 mod signatures;
 
 pub use signatures::{
-    Otherwise, class_term, class_type, function_term, parameter_terms, term_or, written,
+    Otherwise, annotation, class_term, class_type, function_term, parameter_terms, term_or, written,
 };

@@ -66,8 +66,8 @@ pub fn term_or(
     }
 }
 
-/// The type that is written at a pattern.
-fn annotation(q: &Pattern<u32>) -> Option<&TypeNode>
+/// The type that is written at a pattern, where one is: Motoko language manual, section "Patterns".
+pub fn annotation(q: &Pattern<u32>) -> Option<&TypeNode>
     ensures { option_map (λ n. type_node n.now) result ≡ annotation (plain q.now) }
 {
     match q.form.get() {
