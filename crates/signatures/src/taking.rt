@@ -36,6 +36,16 @@ impl Drop for Taken {
     }
 }
 
+impl Taken {
+    /// The types of the parameters, and themselves.
+    pub fn into_parts(self) -> (Sequence<TermId>, Items<Pattern<Note>>)
+        ensures { result ≡ (self.kinds, self.patterns) }
+    {
+        let Taken { kinds, patterns } = self;
+        (kinds, patterns)
+    }
+}
+
 /// One parameter.
 struct One {
     kind: TermId,
