@@ -1,0 +1,5 @@
+mod Finding
+mod Defining
+mod Walking
+mod Copying
+mod Ending
