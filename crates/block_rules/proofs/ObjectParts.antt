@@ -1,13 +1,12 @@
 -- Objects by their lists of fields.
-use Rattle.std.proofs.Common.{◌≡◌, ◌∙◌, ℕ, false, true, List, Ok, Err, None, refl, sym, ap, subst}
+use Rattle.std.proofs.Common.{◌≡◌, ◌∙◌, ℕ, false, List, Ok, Err, None, refl, sym, ap, subst}
 use Rattle.std.specs.Prelude.{Result}
 use Rattle.std.specs.Result.{IsErr, IsErrAnd}
-use Rattle.type_terms.specs.declared.form.Form.{Form}
 use Rattle.type_terms.specs.declared.form.TermId.{TermId}
 use Rattle.typing_rules.specs.AbstractSyntax as p
 use Rattle.typing_rules.specs.Answers.{answer}
 use Rattle.typing_rules.specs.Ends.{Has}
-use Rattle.typing_rules.specs.Judgements.{Fine, Gives, Judgement, Part}
+use Rattle.typing_rules.specs.Judgements.{Gives, Judgement, Part}
 use Rattle.typing_rules.specs.PublicFields.{PublicFields}
 use Rattle.typing_rules.specs.Terms.{Term}
 use Rattle.typing_rules.specs.TypedTrees.{Note, Typed}
@@ -32,7 +31,7 @@ use Rattle.judging.proofs.Steps.{sound_on}
 use Rattle.judging.proofs.TypedParts.{Comes, Given}
 use Rattle.scope_judging.specs.Rules.{kind_within}
 use Rattle.list_judging.specs.declared.part.MadeList.{MadeList}
-use Rattle.list_judging.specs.Lists.{judge_list, list_in, list_of, list_reached, seen_list}
+use Rattle.list_judging.specs.Lists.{list_in, list_of, list_reached, seen_list}
 use Rattle.block_rules.specs.Objects.{judge_object, object_kind, object_term, object_within}
 
 -- a rule that asks nothing

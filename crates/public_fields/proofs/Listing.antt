@@ -1,13 +1,11 @@
 -- Lists of fields, one after another.
-use Rattle.std.proofs.Common.{◌≡◌, ◌∙◌, ◌==◌, ℕ, Bool, true, false, List, [], ◌∷◌, length, map, Ok, Err, Option, Some, None, refl, sym, ap, subst}
+use Rattle.std.proofs.Common.{◌≡◌, ◌∙◌, ◌==◌, ℕ, Bool, true, false, List, [], ◌∷◌, length, map, Ok, Err, refl, sym, ap, subst}
 use Rattle.std.proofs.Math.Dec.{eqb-suc-zero}
 use Rattle.std.specs.Prelude.{Result}
 use Rattle.std.specs.Result.{IsErr, IsErrAnd}
-use Rattle.typing_rules.specs.declared.condition.Condition.{Condition}
 use Rattle.typing_rules.specs.declared.condition.Condition.TheVariants as condition
-use Rattle.typing_rules.specs.AbstractSyntax.{TypeNode}
 use Rattle.typing_rules.specs.AbstractSyntax as p
-use Rattle.typing_rules.specs.Judgements.{Judgement, Part, Fine, Given, Tests}
+use Rattle.typing_rules.specs.Judgements.{Judgement, Part, Fine, Tests}
 use Rattle.typing_rules.specs.Patterns.{is_empty}
 use Rattle.typing_rules.specs.PublicFields.{PublicField, PublicFields}
 use Rattle.abstract_tree.specs.declared.declarations.Declaration.{Declaration}
