@@ -1,0 +1,4 @@
+pub mod Fitting
+pub mod Valuing
+pub mod Fielding
+pub mod ByObject
