@@ -1,5 +1,5 @@
 -- Types that are written in a scope whose type parameters are these.
-use Rattle.std.proofs.Common.{◌≡◌, ℕ, zero, suc, Bool, true, false, List, [], ◌∷◌, ◌++◌, map, Option, Some, None, refl, sym, ap, subst}
+use Rattle.std.proofs.Common.{◌≡◌, ℕ, zero, suc, Bool, true, false, List, [], ◌∷◌, ◌++◌, length, map, Option, Some, None, inl, inr, refl, sym, ap, subst}
 use Rattle.std.specs.Prelude.{cond, nat_eq}
 use Rattle.mo_scopes.specs.declared.library.BuiltInType.{BuiltInType}
 use Rattle.mo_scopes.specs.declared.library.BuiltInType.TheVariants as built_in
@@ -18,8 +18,9 @@ use Rattle.typing_rules.specs.Types.{Proper, EachProper}
 use Rattle.typing_rules.specs.TypeScopes.{TypeName, IsParameter, IsDefinition, TypeScope, type_named, built_in_term, use_term, term, terms, field_terms}
 use Rattle.desugaring_laws.specs.Known.{IsKnown}
 use Rattle.desugaring_laws.specs.Laws.{AreWrittenFine}
-use Rattle.desugaring_laws.specs.Scopes.{IsIn, AreIn, FieldsAreIn, IsScopeFine, AreBoundsIn, HasNoFutures}
+use Rattle.desugaring_laws.specs.Scopes.{IsIn, AreIn, FieldsAreIn, IsNameIn, IsScopeFine, AreBoundsIn}
 use Rattle.desugaring_laws.specs.Yields.{Yields}
+use Rattle.desugaring_laws.proofs.Weakening.{each_more}
 use Rattle.desugaring_laws.proofs.Yielding.{anything, more, tests, part as after}
 
 module _ (vs : List ℕ) where
@@ -266,10 +267,7 @@ reached_no_future s find h (Some (t.Async b)) k a e = k b refl
 reached_no_future s find h (Some (t.Parameter v)) k a e = h v a e
 reached_no_future s find h (Some (t.Use at arguments)) k a e = cc
 
-module _ (defs : Definitions) (futures : HasNoFutures defs) where
-  abbrev followed_ : Term → Option Term
-  followed_ = followed defs.types (reached defs.types)
-
+module _ (defs : Definitions) where
   head_no_future : (o : Option Term) → NoFuture o → async_of (shape defs (or_bottom defs.types o)) ≡ None
   head_no_future None h = refl
   head_no_future (Some (t.Number n)) h = refl
@@ -295,18 +293,23 @@ module _ (defs : Definitions) (futures : HasNoFutures defs) where
   head_no_future (Some (t.Parameter v)) h = refl
   head_no_future (Some (t.Use at arguments)) h = refl
 
-  pub no_future_at : (u : Term) → NoFuture (followed_ u) → async_of (head defs u) ≡ None
+  pub no_future_at : (u : Term) → NoFuture (followed defs.types (reached defs.types) u) → async_of (head defs u) ≡ None
   unfolding head
-  no_future_at u h = head_no_future (followed_ u) h
+  no_future_at u h = head_no_future (followed defs.types (reached defs.types) u) h
+
+-- where definitions are followed by this
+module _ (defs : Definitions) (below : ℕ → Option Term) where
+  abbrev followed_ : Term → Option Term
+  followed_ = followed defs.types below
 
   -- the use of a definition, whose arguments are no futures
-  pub use_no_future : (at : ℕ) (arguments : Terms) → Each NoFuture (each_followed defs.types (reached defs.types) arguments) → NoFuture (followed_ (t.Use at arguments))
-  use_no_future at arguments h =
+  use_no_future : (at : ℕ) → NoFuture (below at) → (arguments : Terms) → Each NoFuture (each_followed defs.types below arguments) → NoFuture (followed_ (t.Use at arguments))
+  use_no_future at future arguments h =
       let ps = parameters_of (definition_at defs.types at) in
-      reached_no_future (argument_of ps arguments) (found_of ps (each_followed defs.types (reached defs.types) arguments)) (λ v. found_no_future ps (each_followed defs.types (reached defs.types) arguments) v h) (reached defs.types at) (futures at)
+      reached_no_future (argument_of ps arguments) (found_of ps (each_followed defs.types below arguments)) (λ v. found_no_future ps (each_followed defs.types below arguments) v h) (below at) future
 
-  parameters_no_future : (vs : List ℕ) (rest : Terms) → Each NoFuture (each_followed defs.types (reached defs.types) rest) → Each NoFuture (each_followed defs.types (reached defs.types) (unlisted (map t.Parameter vs ++ listed rest)))
-  parameters_no_future [] rest h = subst (λ us. Each NoFuture (each_followed defs.types (reached defs.types) us)) (sym (back rest)) h where
+  parameters_no_future : (vs : List ℕ) (rest : Terms) → Each NoFuture (each_followed defs.types below rest) → Each NoFuture (each_followed defs.types below (unlisted (map t.Parameter vs ++ listed rest)))
+  parameters_no_future [] rest h = subst (λ us. Each NoFuture (each_followed defs.types below us)) (sym (back rest)) h where
     back : (us : Terms) → unlisted (listed us) ≡ us
     back t.Nil = refl
     back (t.Cons u us) = ap (λ l. t.Cons u l) (back us)
@@ -336,18 +339,18 @@ module _ (defs : Definitions) (futures : HasNoFutures defs) where
   built_in_no_future (Some built_in.None) a e = cc
   built_in_no_future (Some built_in.Error) a e = cc
 
-  name_no_future : (x : Bytes) (o : Option TypeName) (arguments : Terms) → Each NoFuture (each_followed defs.types (reached defs.types) arguments) → NoFuture (followed_ (use_term x o arguments))
-  name_no_future x None arguments h = built_in_no_future (named built_in_types x)
-  name_no_future x (Some (IsParameter at)) arguments h = λ a e. cc
-  name_no_future x (Some (IsDefinition at outer own)) arguments h = use_no_future at (unlisted (map t.Parameter outer ++ listed arguments)) (parameters_no_future outer arguments h)
+  module _ (met : List Term) (s : TypeScope) (futures : (x : Bytes) (at : ℕ) (outer : List ℕ) (own : ℕ) → type_named s x ≡ Some (IsDefinition at outer own) → NoFuture (below at)) where
+    name_no_future : (x : Bytes) (o : Option TypeName) → type_named s x ≡ o → (arguments : Terms) → Each NoFuture (each_followed defs.types below arguments) → NoFuture (followed_ (use_term x o arguments))
+    name_no_future x None e arguments h = built_in_no_future (named built_in_types x)
+    name_no_future x (Some (IsParameter at)) e arguments h = λ a e. cc
+    name_no_future x (Some (IsDefinition at outer own)) e arguments h = use_no_future at (futures x at outer own e) (unlisted (map t.Parameter outer ++ listed arguments)) (parameters_no_future outer arguments h)
 
-  module _ (met : List Term) (s : TypeScope) where
     abbrev Written : TypeNode → Type 0
     Written a = NoFuture (followed_ (term s a))
 
     mutual
       -- a type that is as it has to be is none of a future
-      proper_no_future : (a : TypeNode) → Yields defs met (Proper defs s a) (λ u. Written a)
+      pub proper_no_future : (a : TypeNode) → Yields defs met (Proper defs s a) (λ u. Written a)
       proper_no_future (p.node at (p.Function sharing.Local qs r)) = more defs met (Proper defs s (p.node at (p.Function sharing.Local qs r))) (λ u. Unit {0}) (λ u. Written (p.node at (p.Function sharing.Local qs r))) (anything defs met (Proper defs s (p.node at (p.Function sharing.Local qs r)))) (λ u z. λ a e. cc)
       proper_no_future (p.node at (p.Function sharing.Shared qs (p.node inner (p.Async r)))) = more defs met (Proper defs s (p.node at (p.Function sharing.Shared qs (p.node inner (p.Async r))))) (λ u. Unit {0}) (λ u. Written (p.node at (p.Function sharing.Shared qs (p.node inner (p.Async r))))) (anything defs met (Proper defs s (p.node at (p.Function sharing.Shared qs (p.node inner (p.Async r)))))) (λ u z. λ a e. cc)
       proper_no_future (p.node at (p.Function sharing.Shared qs (p.node inner (p.Function how qs' q)))) = tt
@@ -371,7 +374,7 @@ module _ (defs : Definitions) (futures : HasNoFutures defs) where
       proper_no_future (p.node at (p.Async b)) = tt
       proper_no_future (p.node at (p.Use x us)) =
           tests defs met _ at _ _ (λ u. Written (p.node at (p.Use x us))) (λ e.
-          more defs met (EachProper defs s us) (λ u. Each NoFuture (each_followed defs.types (reached defs.types) (terms s us))) (λ u. Written (p.node at (p.Use x us))) (each_no_future us) (λ u h. name_no_future x (type_named s x) (terms s us) h))
+          more defs met (EachProper defs s us) (λ u. Each NoFuture (each_followed defs.types below (terms s us))) (λ u. Written (p.node at (p.Use x us))) (each_no_future us) (λ u h. name_no_future x (type_named s x) refl (terms s us) h))
       proper_no_future (p.node at (p.Tuple us)) = more defs met (Proper defs s (p.node at (p.Tuple us))) (λ u. Unit {0}) (λ u. Written (p.node at (p.Tuple us))) (anything defs met (Proper defs s (p.node at (p.Tuple us)))) (λ u z. λ a e. cc)
       proper_no_future (p.node at (p.Array false b)) = more defs met (Proper defs s (p.node at (p.Array false b))) (λ u. Unit {0}) (λ u. Written (p.node at (p.Array false b))) (anything defs met (Proper defs s (p.node at (p.Array false b)))) (λ u z. λ a e. cc)
       proper_no_future (p.node at (p.Array true b)) = more defs met (Proper defs s (p.node at (p.Array true b))) (λ u. Unit {0}) (λ u. Written (p.node at (p.Array true b))) (anything defs met (Proper defs s (p.node at (p.Array true b)))) (λ u z. λ a e. cc)
@@ -379,15 +382,15 @@ module _ (defs : Definitions) (futures : HasNoFutures defs) where
       proper_no_future (p.node at (p.Variant fs)) = more defs met (Proper defs s (p.node at (p.Variant fs))) (λ u. Unit {0}) (λ u. Written (p.node at (p.Variant fs))) (anything defs met (Proper defs s (p.node at (p.Variant fs)))) (λ u z. λ a e. cc)
       proper_no_future (p.node at (p.Actor fs)) = more defs met (Proper defs s (p.node at (p.Actor fs))) (λ u. Unit {0}) (λ u. Written (p.node at (p.Actor fs))) (anything defs met (Proper defs s (p.node at (p.Actor fs)))) (λ u z. λ a e. cc)
 
-      each_no_future : (us : TypeNodes) → Yields defs met (EachProper defs s us) (λ u. Each NoFuture (each_followed defs.types (reached defs.types) (terms s us)))
+      each_no_future : (us : TypeNodes) → Yields defs met (EachProper defs s us) (λ u. Each NoFuture (each_followed defs.types below (terms s us)))
       each_no_future p.Nil = tt
       each_no_future (p.Cons a rest) =
-          after defs met (Proper defs s a) _ (λ u. Written a) (λ u. Each NoFuture (each_followed defs.types (reached defs.types) (terms s (p.Cons a rest)))) (proper_no_future a) (λ u h.
-          more defs met (EachProper defs s rest) (λ u. Each NoFuture (each_followed defs.types (reached defs.types) (terms s rest))) (λ u. Each NoFuture (each_followed defs.types (reached defs.types) (terms s (p.Cons a rest)))) (each_no_future rest) (λ v k. (h, k)))
+          after defs met (Proper defs s a) _ (λ u. Written a) (λ u. Each NoFuture (each_followed defs.types below (terms s (p.Cons a rest)))) (proper_no_future a) (λ u h.
+          more defs met (EachProper defs s rest) (λ u. Each NoFuture (each_followed defs.types below (terms s rest))) (λ u. Each NoFuture (each_followed defs.types below (terms s (p.Cons a rest)))) (each_no_future rest) (λ v k. (h, k)))
 
 -- ---- scopes
 
-module _ (vs : List ℕ) (s : TypeScope) (scope : IsScopeFine vs s) where
+module _ (vs : List ℕ) (s : TypeScope) (names : (x : Bytes) (d : TypeName) → type_named s x ≡ Some d → IsNameIn vs d) where
   parameters_in : (outer : List ℕ) (rest : Terms) → Each (λ v. IsAmong v vs) outer → AreIn vs rest → AreIn vs (unlisted (map t.Parameter outer ++ listed rest))
   parameters_in [] rest h k = subst (λ us. AreIn vs us) (sym (back rest)) k where
     back : (us : Terms) → unlisted (listed us) ≡ us
@@ -419,8 +422,8 @@ module _ (vs : List ℕ) (s : TypeScope) (scope : IsScopeFine vs s) where
 
   name_in : (x : Bytes) (o : Option TypeName) → type_named s x ≡ o → (arguments : Terms) → AreIn vs arguments → IsIn vs (use_term x o arguments)
   name_in x None e arguments h = built_in_in (named built_in_types x)
-  name_in x (Some (IsParameter at)) e arguments h = scope.names x (IsParameter at) e
-  name_in x (Some (IsDefinition at outer own)) e arguments h = parameters_in outer arguments (scope.names x (IsDefinition at outer own) e) h
+  name_in x (Some (IsParameter at)) e arguments h = names x (IsParameter at) e
+  name_in x (Some (IsDefinition at outer own)) e arguments h = parameters_in outer arguments (names x (IsDefinition at outer own) e) h
 
   mutual
     -- a type that is written there has its type parameters among these
@@ -463,10 +466,25 @@ module _ (vs : List ℕ) (s : TypeScope) (scope : IsScopeFine vs s) where
     fields_written_in (p.Field mutable x a rest) = (written_in a, fields_written_in rest)
     fields_written_in (p.EmptyTag x rest) = (tt, fields_written_in rest)
 
+-- more type parameters
+name_more : (vs ws : List ℕ) → ((v : ℕ) → IsAmong v vs → IsAmong v ws) → (d : TypeName) → IsNameIn vs d → IsNameIn ws d
+name_more vs ws sub (IsParameter at) h = sub at h
+name_more vs ws sub (IsDefinition at outer own) h = each_more (λ v. IsAmong v vs) (λ v. IsAmong v ws) sub outer h
+
+pub each_among_of : (vs : List ℕ) (P : ℕ → Type 0) → Each P vs → (v : ℕ) → IsAmong v vs → P v
+each_among_of [] P h v m = absurd m
+each_among_of (w ∷ vs) P h v (inl e) = subst P (sym e) h.0
+each_among_of (w ∷ vs) P h v (inr m) = each_among_of vs P h.1 v m
+
+module _ (defs : Definitions) (vs : List ℕ) (s : TypeScope) (scope : IsScopeFine defs vs s) where
+  pub names_in : (x : Bytes) (d : TypeName) → type_named s x ≡ Some d → IsNameIn vs d
+  names_in x d e = name_more s.parameters vs (each_among_of s.parameters (λ v. IsAmong v vs) scope.parameters) d (scope.names x d e)
+
   -- each type that is read there is one of values
-  pub written_fine : (defs : Definitions) → HasNoFutures defs → AreBoundsIn vs defs → (met : List Term) → AreWrittenFine defs met vs s
-  written_fine defs futures bounds met a =
-      after defs met (Proper defs s a) _ (λ u. NoFuture (followed defs.types (reached defs.types) (term s a))) (IsKnown defs met vs) (proper_no_future defs futures met s a) (λ u h. λ m. record {
+  pub written_fine : AreBoundsIn vs defs → (met : List Term) → AreWrittenFine defs met vs s
+  written_fine bounds met a =
+      after defs met (Proper defs s a) _ (λ u. NoFuture (followed defs.types (reached defs.types) (term s a))) (IsKnown defs met vs)
+      (proper_no_future defs (reached defs.types) met s (λ x at outer own e. scope.futures x at outer own e (suc (length defs.types))) a) (λ u h. λ m. record {
         there = m;
-        fine = record { scoped = scoped_in vs defs bounds (term s a) (written_in a); no_future = no_future_at defs futures (term s a) h };
+        fine = record { scoped = scoped_in vs defs bounds (term s a) (written_in vs s names_in a); no_future = no_future_at defs (term s a) h };
       })

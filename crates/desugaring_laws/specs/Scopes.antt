@@ -3,7 +3,7 @@ use Rattle.std.specs.Prelude.{◌≡◌, ℕ, List, Some}
 use Rattle.mo_types.specs.Sub.{Each}
 use Rattle.typed_tree.specs.Instances.{IsAmong}
 use Rattle.typing_rules.specs.AbstractSyntax.{Bytes}
-use Rattle.typing_rules.specs.Definitions.{Definitions, bound_at, reached}
+use Rattle.typing_rules.specs.Definitions.{Definitions, bound_at, reaches}
 use Rattle.typing_rules.specs.Terms.{Term, Terms, Fields}
 use Rattle.typing_rules.specs.Terms as t
 use Rattle.typing_rules.specs.TypeScopes.{TypeName, IsParameter, IsDefinition, TypeScope, type_named}
@@ -39,14 +39,16 @@ module _ (vs : List ℕ) where
   IsNameIn (IsParameter at) = IsAmong at vs
   IsNameIn (IsDefinition at outer own) = Each (λ v. IsAmong v vs) outer
 
-  pub record IsScopeFine (s : TypeScope) : Type 0 where
-    pub names : (x : Bytes) (d : TypeName) → type_named s x ≡ Some d → IsNameIn d
-    pub parameters : Each (λ v. IsAmong v vs) s.parameters
-
   -- the bounds of these mention only these
   abbrev pub AreBoundsIn : Definitions → Type 0
   AreBoundsIn defs = (v : ℕ) → IsAmong v vs → IsIn (bound_at defs.parameters v)
 
--- no definition stands for a future
-abbrev pub HasNoFutures : Definitions → Type 0
-HasNoFutures defs = (at : ℕ) (a : Term) → reached defs.types at ≡ Some (t.Async a) → ⊥
+-- a definition does not stand for a future, by however many definitions it is followed
+abbrev pub IsNoFuture : Definitions → ℕ → Type 0
+IsNoFuture defs at = (n : ℕ) (a : Term) → reaches defs.types n at ≡ Some (t.Async a) → ⊥
+
+-- names of types, where these type parameters are in scope
+pub record IsScopeFine (defs : Definitions) (vs : List ℕ) (s : TypeScope) : Type 0 where
+  pub names : (x : Bytes) (d : TypeName) → type_named s x ≡ Some d → IsNameIn s.parameters d
+  pub futures : (x : Bytes) (at : ℕ) (outer : List ℕ) (own : ℕ) → type_named s x ≡ Some (IsDefinition at outer own) → IsNoFuture defs at
+  pub parameters : Each (λ v. IsAmong v vs) s.parameters

@@ -20,7 +20,7 @@ use Rattle.desugaring_laws.specs.Known.{IsKnown}
 use Rattle.desugaring_laws.specs.Scopes.{IsScopeFine, AreBoundsIn}
 use Rattle.expression_laws.specs.Fitting.{StandsFor, AValue, ACell, AFuture, AGeneric, Fits}
 use Rattle.expression_laws.proofs.Naming.{found_next}
-use Rattle.function_laws.proofs.Weakening.{among_behind, among_between, known_more}
+use Rattle.desugaring_laws.proofs.Weakening.{among_behind, among_between, known_more}
 
 got_mapped : {A B : Type 0} (g : A → B) (xs : List A) (n : ℕ) (x : A) → slice_get xs n ≡ Some x → slice_get (map g xs) n ≡ Some (g x)
 got_mapped g [] n x h = cc

@@ -1,4 +1,3 @@
-pub mod Weakening
 pub mod InFunctions
 pub mod Parameters
 pub mod Functions
