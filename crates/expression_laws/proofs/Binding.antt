@@ -57,7 +57,7 @@ module _ (S : Setting) (A : Place S) where
   -- it stands on u, and what uses its names and these others fits behind it
   pub record Binds (used : List Bytes) (u : Term) (b : Scope × Pattern Note) : Type 0 where
     pub stands : stand.Stands S.slots A.context.parameters (pattern S.defs S.number b.1) (S.number u) (wants S.number (bound_names b.1))
-    pub fits : Fits S.defs S.slots S.terms S.number used (with_values b.0 E) (InFrame b) (Inner b)
+    pub fits : Fits S.defs S.slots S.terms S.number S.scope used (with_values b.0 E) (InFrame b) (Inner b)
 
   pub binds : (q : Pattern ℕ) → IsPatternFine q → (u : Term) → Known S A u → (used : List Bytes) → Within (without (names_in q) used) A.used → Yields S.defs S.terms (Stands S.defs A.known.types q u) (Binds used u)
   binds q w u k used within =
@@ -69,12 +69,12 @@ module _ (S : Setting) (A : Place S) where
         fits = fit b i.0 i.1;
       })
     where
-      fit : (b : Scope × Pattern Note) → PatternTyped S.defs S.slots S.terms S.number A.context.parameters u b.0 b.1 → names_in b.1 ≡ names_in q → Fits S.defs S.slots S.terms S.number used (with_values b.0 E) (InFrame b) (Inner b)
+      fit : (b : Scope × Pattern Note) → PatternTyped S.defs S.slots S.terms S.number A.context.parameters u b.0 b.1 → names_in b.1 ≡ names_in q → Fits S.defs S.slots S.terms S.number S.scope used (with_values b.0 E) (InFrame b) (Inner b)
       fit b i e =
           let same : names_of (bound_names b.1) ≡ names_in q = sym (names_bound b.1) ∙ e in
-          subst (λ s. Fits S.defs S.slots S.terms S.number used (with_values s E) (InFrame b) (Inner b)) (sym i.scope_is)
-          (subst (λ xs. Fits S.defs S.slots S.terms S.number used (with_values (entered (bound_names b.1) []) E) (frames.with_names xs A.frame) (Inner b)) (sym (names_bound b.1))
-          (with_pattern S.defs S.slots S.terms S.number used A.used (bound_names b.1) (λ x m. reach x (outside (names_in q) used x m) same) E A.frame A.context A.fits
+          subst (λ s. Fits S.defs S.slots S.terms S.number S.scope used (with_values s E) (InFrame b) (Inner b)) (sym i.scope_is)
+          (subst (λ xs. Fits S.defs S.slots S.terms S.number S.scope used (with_values (entered (bound_names b.1) []) E) (frames.with_names xs A.frame) (Inner b)) (sym (names_bound b.1))
+          (with_pattern S.defs S.slots S.terms S.number S.scope used A.used (bound_names b.1) (λ x m. reach x (outside (names_in q) used x m) same) E A.frame A.context A.fits
           (subst (λ xs. Distinct xs) (sym same) w.distinct) i.known))
         where
           reach : (x : Bytes) → Among x (names_in q) ⊎ Among x (without (names_in q) used) → names_of (bound_names b.1) ≡ names_in q → Among x (names_of (bound_names b.1)) ⊎ Among x A.used
@@ -92,10 +92,10 @@ module _ (S : Setting) (A : Place S) where
   -- each case of a list
   abbrev pub EachCase : Cases ℕ → Type 0
   EachCase p.NoCases = Unit {0}
-  EachCase (p.Case q a rest) = IsPatternFine q × AreTyped S.defs S.slots S.terms S.number a × Within (without (names_in q) (occurring a)) A.used × EachCase rest
+  EachCase (p.Case q a rest) = IsPatternFine q × AreTyped S.defs S.slots S.terms S.number S.scope a × Within (without (names_in q) (occurring a)) A.used × EachCase rest
 
   -- what stands behind a pattern is judged
-  behind : (b : Scope × Pattern Note) (u : Term) (a : Expression ℕ) → Binds (occurring a) u b → AreTyped S.defs S.slots S.terms S.number a → (w : Option Term) → IsWantFine S.defs A.context.parameters w
+  behind : (b : Scope × Pattern Note) (u : Term) (a : Expression ℕ) → Binds (occurring a) u b → AreTyped S.defs S.slots S.terms S.number S.scope a → (w : Option Term) → IsWantFine S.defs A.context.parameters w
       → Yields S.defs S.terms (Judge S.defs (with_values b.0 E) a w) (Becomes S.defs S.slots S.terms S.number Other A.known.labels (InFrame b) (Inner b) w)
   behind b u a i j w k = j (with_values b.0 E) (InFrame b) (Inner b) i.fits w k
 
@@ -134,7 +134,7 @@ module _ (S : Setting) (A : Place S) where
 
   -- ---- `try`
 
-  pub try_typed : (at : ℕ) (a b : Expression ℕ) (q : Pattern ℕ) → IsTypedPart S A a → IsPatternFine q → AreTyped S.defs S.slots S.terms S.number b → Within (without (names_in q) (occurring b)) A.used
+  pub try_typed : (at : ℕ) (a b : Expression ℕ) (q : Pattern ℕ) → IsTypedPart S A a → IsPatternFine q → AreTyped S.defs S.slots S.terms S.number S.scope b → Within (without (names_in q) (occurring b)) A.used
       → (w : Option Term) → WantKnown S A w → Yields S.defs S.terms (Rule S.defs A.around E at (p.Try a q b) w) (Is S A w)
   try_typed at a b q ja fine jb within w k =
       tests S.defs S.terms _ at (waits A.known.body) _ (Is S A w) (λ waiting.

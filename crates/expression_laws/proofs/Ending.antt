@@ -26,6 +26,7 @@ use Rattle.typing_rules.specs.Heads.{head}
 use Rattle.typing_rules.specs.Judgements.{Judgement, Part}
 use Rattle.typing_rules.specs.Terms.{Term, unit}
 use Rattle.typing_rules.specs.TypedTrees.{Note, Typed, note, typed as at_type, type_of}
+use Rattle.typing_rules.specs.TypeScopes.{TypeScope}
 use Rattle.desugaring.specs.Expressions.{tree as written_out, form, looped}
 use Rattle.desugaring.specs.FreeNames.{occurring}
 use Rattle.desugaring.specs.Frames.{Frame}
@@ -33,7 +34,6 @@ use Rattle.desugaring.specs.Nodes.{Layer, node_of}
 use Rattle.desugaring_laws.specs.GraphOf.{IsGraphOf}
 use Rattle.desugaring_laws.specs.Known.{IsFine, IsKnown}
 use Rattle.desugaring_laws.specs.Laws.{AreWrittenFine}
-use Rattle.desugaring_laws.specs.Scopes.{HasNoFutures}
 use Rattle.desugaring_laws.specs.Yields.{Yields}
 use Rattle.desugaring_laws.proofs.Graph.{reflexive, transitive, below_number, part_known, head_there}
 use Rattle.desugaring_laws.proofs.Scoping.{written_fine}
@@ -50,7 +50,8 @@ pub record Setting : Type 0 where
   pub number : Term → TypeId
   pub graph : IsGraphOf defs slots terms number
   pub units : Among unit terms
-  pub futures : HasNoFutures defs
+  -- the types in scope
+  pub scope : TypeScope
 
 -- where an expression stands
 pub record Place (S : Setting) : Type 0 where
@@ -60,7 +61,7 @@ pub record Place (S : Setting) : Type 0 where
   pub context : typed.Context
   -- the names that the whole uses
   pub used : List Bytes
-  pub fits : Fits S.defs S.slots S.terms S.number used (directly Other known) frame context
+  pub fits : Fits S.defs S.slots S.terms S.number S.scope used (directly Other known) frame context
 
 -- what is wanted was met
 abbrev pub IsWantKnown : Definitions → List Term → List ℕ → Option Term → Type 0
@@ -71,8 +72,8 @@ IsWantKnown defs terms vs (Some u) = IsKnown defs terms vs u
 abbrev pub Within : List Bytes → List Bytes → Type 0
 Within xs ys = (x : Bytes) → Among x xs → Among x ys
 
-pub narrowed : (S : Setting) (xs ys : List Bytes) → Within xs ys → (e : Context) (f : Frame) (c : typed.Context) → Fits S.defs S.slots S.terms S.number ys e f c → Fits S.defs S.slots S.terms S.number xs e f c
-narrowed S xs ys h e f c fit = record { names = λ x m. fit.names x (h x m); labels = fit.labels; returns = fit.returns; options = fit.options; body_is = fit.body_is; types = fit.types; bounds = fit.bounds }
+pub narrowed : (S : Setting) (xs ys : List Bytes) → Within xs ys → (e : Context) (f : Frame) (c : typed.Context) → Fits S.defs S.slots S.terms S.number S.scope ys e f c → Fits S.defs S.slots S.terms S.number S.scope xs e f c
+narrowed S xs ys h e f c fit = record { names = λ x m. fit.names x (h x m); labels = fit.labels; returns = fit.returns; options = fit.options; body_is = fit.body_is; types = fit.types; bounds = fit.bounds; scope_is = fit.scope_is }
 
 module _ (S : Setting) where
   pub self : (t : TypeId) → Below (head_at S.slots) t t
@@ -123,7 +124,7 @@ module _ (S : Setting) where
 
     -- each type that is written there is one of values
     pub written : AreWrittenFine S.defs S.terms A.context.parameters A.known.types
-    written = written_fine A.context.parameters A.known.types A.fits.types S.defs S.futures A.fits.bounds S.terms
+    written = written_fine S.defs A.context.parameters A.known.types A.fits.types A.fits.bounds S.terms
 
     abbrev pub WantKnown : Option Term → Type 0
     WantKnown = IsWantKnown S.defs S.terms A.context.parameters
@@ -151,9 +152,9 @@ module _ (S : Setting) where
 
     -- a part, which uses some of the names of the whole
     abbrev pub IsTypedPart : Expression ℕ → Type 0
-    IsTypedPart a = AreTyped S.defs S.slots S.terms S.number a × Within (occurring a) A.used
+    IsTypedPart a = AreTyped S.defs S.slots S.terms S.number S.scope a × Within (occurring a) A.used
 
-    pub part_fits : (a : Expression ℕ) → Within (occurring a) A.used → Fits S.defs S.slots S.terms S.number (occurring a) (directly Other A.known) A.frame A.context
+    pub part_fits : (a : Expression ℕ) → Within (occurring a) A.used → Fits S.defs S.slots S.terms S.number S.scope (occurring a) (directly Other A.known) A.frame A.context
     part_fits a h = narrowed S (occurring a) A.used h (directly Other A.known) A.frame A.context A.fits
 
     -- a part is judged

@@ -15,6 +15,7 @@ use Rattle.typing_rules.specs.Contexts.{Context, Label, directly, first_loops, i
 use Rattle.typing_rules.specs.Contexts as rules
 use Rattle.typing_rules.specs.Definitions.{Definitions}
 use Rattle.typing_rules.specs.Terms.{Term, unit}
+use Rattle.typing_rules.specs.TypeScopes.{TypeScope}
 use Rattle.desugaring.specs.Frames.{Exit, Labelled as ALabel, Continued, Optional, Frame, with_exit, exit_from, exit, is_label, is_continued, is_optional, is_returned}
 use Rattle.desugaring_laws.specs.Known.{IsKnown}
 use Rattle.expression_laws.specs.Fitting.{IsLabelled, IsReturned, Fits}
@@ -40,7 +41,7 @@ module _ (x : Exit) (f : Frame) (t : TypeId) (ts : List TypeId) (p : Exit → Bo
   nearest h = ap (λ b. slice_get (t ∷ ts) (cond b zero (exit_from 1 p f.exits))) h
 
 module _ (defs : Definitions) (slots : List Slot) (terms : List Term) (number : Term → TypeId) where
-  module _ (used : List Bytes) (e : Context) (f : Frame) (c : typed.Context) (fit : Fits defs slots terms number used e f c) (x : Exit) (t : TypeId) where
+  module _ (scope : TypeScope) (used : List Bytes) (e : Context) (f : Frame) (c : typed.Context) (fit : Fits defs slots terms number scope used e f c) (x : Exit) (t : TypeId) where
     returns_further : is_returned x ≡ false → (u : Term) → e.returns ≡ Some u → IsReturned defs slots terms number (with_exit x f) (with_label t c) u
     returns_further h u r = let k = fit.returns u r in record { known = k.known; left = further x f t c.labels is_returned (Some (number u)) h k.left }
 
@@ -54,29 +55,31 @@ module _ (defs : Definitions) (slots : List Slot) (terms : List Term) (number : 
       continued = λ r. further x f t c.labels (is_continued y) (Some (number unit)) k (i.continued r);
     }
 
-  module _ (used : List Bytes) (e : Context) (f : Frame) (c : typed.Context) (fit : Fits defs slots terms number used e f c) where
+  module _ (scope : TypeScope) (used : List Bytes) (e : Context) (f : Frame) (c : typed.Context) (fit : Fits defs slots terms number scope used e f c) where
     -- `do ?`
-    pub with_option : (t : TypeId) → IsSomething (opt_of (head_at slots t)) → Fits defs slots terms number used (in_option e) (with_exit Optional f) (with_label t c)
+    pub with_option : (t : TypeId) → IsSomething (opt_of (head_at slots t)) → Fits defs slots terms number scope used (in_option e) (with_exit Optional f) (with_label t c)
     with_option t h = record {
       names = fit.names;
-      labels = λ y l k. label_further used e f c fit Optional t y l refl refl (fit.labels y l k);
-      returns = returns_further used e f c fit Optional t refl;
+      labels = λ y l k. label_further scope used e f c fit Optional t y l refl refl (fit.labels y l k);
+      returns = returns_further scope used e f c fit Optional t refl;
       options = λ r. (t, nearest Optional f t c.labels is_optional refl, h);
       body_is = fit.body_is;
       types = fit.types;
       bounds = fit.bounds;
+      scope_is = fit.scope_is;
     }
 
     -- a label
-    pub with_new_label : (x : Bytes) (v : Term) → IsKnown defs terms c.parameters v → Fits defs slots terms number used (directly Labelled (rules.with_label x (record { type = v; loop = false }) e)) (with_exit (ALabel x) f) (with_label (number v) c)
+    pub with_new_label : (x : Bytes) (v : Term) → IsKnown defs terms c.parameters v → Fits defs slots terms number scope used (directly Labelled (rules.with_label x (record { type = v; loop = false }) e)) (with_exit (ALabel x) f) (with_label (number v) c)
     with_new_label x v k = record {
       names = fit.names;
       labels = λ y l h. by y l (bytes_eq y x) refl h;
-      returns = returns_further used e f c fit (ALabel x) (number v) refl;
-      options = options_further used e f c fit (ALabel x) (number v) refl;
+      returns = returns_further scope used e f c fit (ALabel x) (number v) refl;
+      options = options_further scope used e f c fit (ALabel x) (number v) refl;
       body_is = fit.body_is;
       types = fit.types;
       bounds = fit.bounds;
+      scope_is = fit.scope_is;
     }
       where
         by : (y : Bytes) (l : Label) (b : Bool) → bytes_eq y x ≡ b → cond (bytes_eq y x) (Some (record { type = v; loop = false })) (named e.labels y) ≡ Some l → IsLabelled defs slots terms number (with_exit (ALabel x) f) (with_label (number v) c) y l
@@ -86,18 +89,19 @@ module _ (defs : Definitions) (slots : List Slot) (terms : List Term) (number : 
             subst (λ z. IsLabelled defs slots terms number (with_exit (ALabel x) f) (with_label (number v) c) y z) r
             (record { known = k; left = nearest (ALabel x) f (number v) c.labels (is_label y) h; continued = λ z. absurd (differ z) })
         by y l false h i =
-            label_further used e f c fit (ALabel x) (number v) y l h refl (fit.labels y l (sym (ap (λ z. cond z (Some (record { type = v; loop = false })) (named e.labels y)) h) ∙ i))
+            label_further scope used e f c fit (ALabel x) (number v) y l h refl (fit.labels y l (sym (ap (λ z. cond z (Some (record { type = v; loop = false })) (named e.labels y)) h) ∙ i))
 
     -- the body of a loop under a label
-    pub in_body_of : (x : Bytes) (l : Label) (ls : List (Bytes × Label)) → e.labels ≡ (x, l) ∷ ls → Fits defs slots terms number used (in_loop Labelled e) (with_exit (Continued x) f) (with_label (number unit) c)
+    pub in_body_of : (x : Bytes) (l : Label) (ls : List (Bytes × Label)) → e.labels ≡ (x, l) ∷ ls → Fits defs slots terms number scope used (in_loop Labelled e) (with_exit (Continued x) f) (with_label (number unit) c)
     in_body_of x l ls at = record {
       names = fit.names;
       labels = λ y m h. by y m (bytes_eq y x) refl (sym (ap (λ z. named (first_loops z) y) at) ∙ h);
-      returns = returns_further used e f c fit (Continued x) (number unit) refl;
-      options = options_further used e f c fit (Continued x) (number unit) refl;
+      returns = returns_further scope used e f c fit (Continued x) (number unit) refl;
+      options = options_further scope used e f c fit (Continued x) (number unit) refl;
       body_is = fit.body_is;
       types = fit.types;
       bounds = fit.bounds;
+      scope_is = fit.scope_is;
     }
       where
         looped : Label
@@ -117,4 +121,4 @@ module _ (defs : Definitions) (slots : List Slot) (terms : List Term) (number : 
               continued = λ z. nearest (Continued x) f (number unit) c.labels (is_continued y) h;
             })
         by y m false h i =
-            label_further used e f c fit (Continued x) (number unit) y m refl h (was y m false h (sym (ap (λ z. cond z (Some looped) (named ls y)) h) ∙ i))
+            label_further scope used e f c fit (Continued x) (number unit) y m refl h (was y m false h (sym (ap (λ z. cond z (Some looped) (named ls y)) h) ∙ i))

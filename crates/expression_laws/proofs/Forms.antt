@@ -47,7 +47,7 @@ all xs x m = m
 
 module _ (S : Setting) (A : Place S) where
   abbrev Q : Expression ℕ → Type 0
-  Q a = AreTyped S.defs S.slots S.terms S.number a
+  Q a = AreTyped S.defs S.slots S.terms S.number S.scope a
 
   -- each of a list that uses some of the names
   each_typing : (items : Expressions ℕ) → EachIs Q items → Within (in_each items) A.used → EachTyping S A items
@@ -179,12 +179,12 @@ module _ (S : Setting) (A : Place S) where
   by_form n (p.Subsumed a) j u w k = absurd j
 
 pub forms_are_typed : FormsAreTyped
-forms_are_typed defs slots terms number graph units futures n x j e f c fit w k = by w k where
+forms_are_typed defs slots terms number graph units scope n x j e f c fit w k = by w k where
   setting : Setting
-  setting = record { defs = defs; slots = slots; terms = terms; number = number; graph = graph; units = units; futures = futures }
+  setting = record { defs = defs; slots = slots; terms = terms; number = number; graph = graph; units = units; scope = scope }
 
   place : Place setting
-  place = record { around = e.around; known = e; frame = f; context = c; used = occurring (p.exp n x); fits = record { names = fit.names; labels = fit.labels; returns = fit.returns; options = fit.options; body_is = fit.body_is; types = fit.types; bounds = fit.bounds } }
+  place = record { around = e.around; known = e; frame = f; context = c; used = occurring (p.exp n x); fits = record { names = fit.names; labels = fit.labels; returns = fit.returns; options = fit.options; body_is = fit.body_is; types = fit.types; bounds = fit.bounds; scope_is = fit.scope_is } }
 
   by : (w : Option Term) → IsWantFine defs c.parameters w → Yields defs terms (Judge defs e (p.exp n x) w) (Becomes defs slots terms number e.around e.labels f c w)
   by None k = by_form setting place n x j (all (occurring (p.exp n x))) None tt

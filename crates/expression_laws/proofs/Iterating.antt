@@ -177,7 +177,7 @@ module _ (S : Setting) where
           gives = (fields, f.part, S.number r, ev, (f, ef, fixed, refl), hf, inr (inr (there S r kr.there node.Bottom g), ap (λ z. head_at S.slots (S.number z)) q ∙ there S t.Bottom (subst (λ z. Among z S.terms) q m) node.Bottom (bottom_head S.defs)));
         }
 
-    pub for_typed : (n : ℕ) (q : Pattern ℕ) (a b : Expression ℕ) → IsPatternFine q → IsTypedPart S A a → AreTyped S.defs S.slots S.terms S.number b → Within (without (names_in q) (occurring b)) A.used
+    pub for_typed : (n : ℕ) (q : Pattern ℕ) (a b : Expression ℕ) → IsPatternFine q → IsTypedPart S A a → AreTyped S.defs S.slots S.terms S.number S.scope b → Within (without (names_in q) (occurring b)) A.used
         → (w : Option Term) → WantKnown S A w → Yields S.defs S.terms (Rule S.defs A.around (directly Other A.known) n (p.For q a b) w) (Is S A w)
     for_typed n q a b fine ja jb within w k =
         judged S A a ja None tt _ (Is S A w) (λ x ix.

@@ -46,7 +46,7 @@ use Rattle.expression_laws.proofs.Wanting.{for_all, wanted_is}
 
 module _ (S : Setting) where
   abbrev FitsIn : List Bytes → Context → Frame → typed.Context → Type 0
-  FitsIn used e f c = Fits S.defs S.slots S.terms S.number used e f c
+  FitsIn used e f c = Fits S.defs S.slots S.terms S.number S.scope used e f c
 
   -- what the body of a loop is written out to
   abbrev pub loop_tree : Around → List (Bytes × Label) → Frame → p.Expression Note → TypedExpression
@@ -77,7 +77,7 @@ module _ (S : Setting) where
   repeat_stands Named ls f n c b = refl
   repeat_stands Other ls f n c b = refl
 
-  module _ (e : Context) (f : Frame) (c : typed.Context) (a : Expression ℕ) (fit : FitsIn (occurring a) (directly Other e) f c) (j : AreTyped S.defs S.slots S.terms S.number a) where
+  module _ (e : Context) (f : Frame) (c : typed.Context) (a : Expression ℕ) (fit : FitsIn (occurring a) (directly Other e) f c) (j : AreTyped S.defs S.slots S.terms S.number S.scope a) where
     abbrev pub BodyTyped : Around → List (Bytes × Label) → p.Expression Note → Type 0
     BodyTyped o ls b = Typed S.slots (loop_tree o ls f b) c (Of (S.number unit))
 
@@ -95,6 +95,7 @@ module _ (S : Setting) where
       body_is = fit.body_is;
       types = fit.types;
       bounds = fit.bounds;
+      scope_is = fit.scope_is;
     }
       where
         none : (y : Bytes) (l : Label) → named [] y ≡ Some l → ⊥
@@ -108,7 +109,7 @@ module _ (S : Setting) where
         let f' = with_exit (Continued l.0) f in
         let c' = with_label (S.number unit) c in
         more S.defs S.terms (Judge S.defs (in_loop Labelled (directly Other e)) a (Some unit)) (Becomes S.defs S.slots S.terms S.number Other (first_loops e.labels) f' c' (Some unit)) _
-        (j (in_loop Labelled (directly Other e)) f' c' (in_body_of S.defs S.slots S.terms S.number (occurring a) (directly Other e) f c fit l.0 l.1 ls h) (Some unit) (unit_fine S.defs c.parameters)) (λ b i.
+        (j (in_loop Labelled (directly Other e)) f' c' (in_body_of S.defs S.slots S.terms S.number S.scope (occurring a) (directly Other e) f c fit l.0 l.1 ls h) (Some unit) (unit_fine S.defs c.parameters)) (λ b i.
         value_node S.defs S.slots S.terms S.number S.graph c unit (unit_known S c.parameters) (F.Label (written_out S.defs S.number f' b)) (S.number unit, refl, as_wanted S (first_loops e.labels) f' c' unit b i)
         (S.number unit) (self S (S.number unit)))
 
@@ -173,7 +174,7 @@ module _ (S : Setting) where
         let f' = with_exit (ALabel x) A.frame in
         let c' = with_label (S.number v) A.context in
         after S.defs S.terms (Judge S.defs e' a (Some v)) _ (Becomes S.defs S.slots S.terms S.number Labelled e'.labels f' c' (Some v)) (Is S A w)
-        (j.0 e' f' c' (with_new_label S.defs S.slots S.terms S.number (occurring a) (directly Other A.known) A.frame A.context (part_fits S A a j.1) x v kv) (Some v) kv.fine) (λ b i.
+        (j.0 e' f' c' (with_new_label S.defs S.slots S.terms S.number S.scope (occurring a) (directly Other A.known) A.frame A.context (part_fits S A a j.1) x v kv) (Some v) kv.fine) (λ b i.
         has S A n w v (p.Label x u b) (λ l. refl) k (λ m.
         a_value S A v kv (F.Label (looped S.defs S.number f' x b)) (S.number v, refl, (settled S Labelled (λ z. z) c' (type_of b) _ i.gives).typed (S.number v) i.below))))
 
@@ -234,7 +235,7 @@ module _ (S : Setting) where
       frame = with_exit Optional A.frame;
       context = with_label q.0 A.context;
       used = A.used;
-      fits = with_option S.defs S.slots S.terms S.number A.used (directly Other A.known) A.frame A.context A.fits q.0 q.1;
+      fits = with_option S.defs S.slots S.terms S.number S.scope A.used (directly Other A.known) A.frame A.context A.fits q.0 q.1;
     }
 
     abbrev inner : p.Expression Note → TypedExpression

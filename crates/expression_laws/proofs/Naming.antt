@@ -17,6 +17,7 @@ use Rattle.typing_rules.specs.AsyncPlaces.{Body}
 use Rattle.typing_rules.specs.Contexts.{Scope, Bound, Context, constant, with_values}
 use Rattle.typing_rules.specs.Definitions.{Definitions}
 use Rattle.typing_rules.specs.Terms.{Term}
+use Rattle.typing_rules.specs.TypeScopes.{TypeScope}
 use Rattle.desugaring.specs.Frames.{Entry, Named, Kept, Unnamed, value, Frame, Use, found_from, found}
 use Rattle.desugaring.specs.Frames as frames
 use Rattle.desugaring_laws.specs.Known.{IsKnown}
@@ -101,10 +102,10 @@ module _ (defs : Definitions) (slots : List Slot) (terms : List Term) (number : 
           subst (λ u. StandsAt u (Of (number x.1) ∷ (wants number xs ++ ns)) b) (sym (ap (λ t. cond t (record { index = zero; cell = false }) (found_from 1 rest y)) i ∙ found_next zero rest y)) r
 
   -- around what stands behind a pattern
-  pub with_pattern : (used outer : List Bytes) (xs : Names) → ((x : Bytes) → Among x used → Among x (names_of xs) ⊎ Among x outer) → (e : Context) (f : Frame) (c : typed.Context) → Fits defs slots terms number outer e f c
+  pub with_pattern : (scope : TypeScope) (used outer : List Bytes) (xs : Names) → ((x : Bytes) → Among x used → Among x (names_of xs) ⊎ Among x outer) → (e : Context) (f : Frame) (c : typed.Context) → Fits defs slots terms number scope outer e f c
       → Distinct (names_of xs) → Each (λ x. IsKnown defs terms c.parameters x.1) xs
-      → Fits defs slots terms number used (with_values (entered xs []) e) (frames.with_names (names_of xs) f) (with_names (wants number xs) c)
-  with_pattern used outer xs within e f c fit d k = record {
+      → Fits defs slots terms number scope used (with_values (entered xs []) e) (frames.with_names (names_of xs) f) (with_names (wants number xs) c)
+  with_pattern scope used outer xs within e f c fit d k = record {
     names = λ y m b h. names_stand c.parameters e.body outer xs d k e.values f.names c.names fit.names y (within y m) b (ap (λ s. named s y) (entered_on xs e.values) ∙ h);
     labels = λ y l h. let i = fit.labels y l h in record { known = i.known; left = i.left; continued = i.continued };
     returns = λ u h. let i = fit.returns u h in record { known = i.known; left = i.left };
@@ -112,4 +113,5 @@ module _ (defs : Definitions) (slots : List Slot) (terms : List Term) (number : 
     body_is = fit.body_is;
     types = fit.types;
     bounds = fit.bounds;
+    scope_is = fit.scope_is;
   }

@@ -78,8 +78,8 @@ module _ (S : Setting) where
     as_fine (Some u) k = k.fine
 
     -- the same place with something else directly around
-    pub moved : (a : Expression ℕ) → Within (occurring a) A.used → (o : Around) → Fits S.defs S.slots S.terms S.number (occurring a) (directly o E) A.frame A.context
-    moved a h o = record { names = λ x m. A.fits.names x (h x m); labels = A.fits.labels; returns = A.fits.returns; options = A.fits.options; body_is = A.fits.body_is; types = A.fits.types; bounds = A.fits.bounds }
+    pub moved : (a : Expression ℕ) → Within (occurring a) A.used → (o : Around) → Fits S.defs S.slots S.terms S.number S.scope (occurring a) (directly o E) A.frame A.context
+    moved a h o = record { names = λ x m. A.fits.names x (h x m); labels = A.fits.labels; returns = A.fits.returns; options = A.fits.options; body_is = A.fits.body_is; types = A.fits.types; bounds = A.fits.bounds; scope_is = A.fits.scope_is }
 
     pub no_local : waits A.known.body ≡ true → A.context.body ≡ sort.Local → ⊥
     no_local h e = by A.known.body h (sym A.fits.body_is ∙ e) where

@@ -17,6 +17,7 @@ use Rattle.typing_rules.specs.Contexts.{Bound, Label, Context, value_named}
 use Rattle.typing_rules.specs.Definitions.{Definitions}
 use Rattle.typing_rules.specs.Heads.{head}
 use Rattle.typing_rules.specs.Terms.{Term, unit}
+use Rattle.typing_rules.specs.TypeScopes.{TypeScope}
 use Rattle.desugaring.specs.Frames.{Frame, is_label, is_continued, is_optional, is_returned, found, exit}
 use Rattle.desugaring_laws.specs.Known.{IsKnown}
 use Rattle.desugaring_laws.specs.Scopes.{IsScopeFine, AreBoundsIn}
@@ -47,12 +48,13 @@ module _ (defs : Definitions) (slots : List Slot) (terms : List Term) (number : 
     pub known : IsKnown defs terms c.parameters u
     pub left : slice_get c.labels (exit f is_returned) ≡ Some (number u)
 
-  -- for what uses none but these names
-  pub record Fits (used : List Bytes) (e : Context) (f : Frame) (c : typed.Context) : Type 0 where
+  -- for what uses none but these names, in this scope of types
+  pub record Fits (scope : TypeScope) (used : List Bytes) (e : Context) (f : Frame) (c : typed.Context) : Type 0 where
     pub names : (x : Bytes) → Among x used → (b : Bound) → value_named e x ≡ Some b → (w : Want TypeId) × (slice_get c.names (found f x).index ≡ Some w) × StandsFor defs slots terms number c.parameters e.body b (found f x).cell w
     pub labels : (x : Bytes) (l : Label) → named e.labels x ≡ Some l → IsLabelled f c x l
     pub returns : (u : Term) → e.returns ≡ Some u → IsReturned f c u
     pub options : e.ends ≡ true → (o : TypeId) × (slice_get c.labels (exit f is_optional) ≡ Some o) × IsSomething (opt_of (head_at slots o))
     pub body_is : c.body ≡ sort_of e.body
-    pub types : IsScopeFine c.parameters e.types
+    pub types : IsScopeFine defs c.parameters e.types
     pub bounds : AreBoundsIn c.parameters defs
+    pub scope_is : e.types ≡ scope

@@ -10,9 +10,9 @@ use Rattle.typing_rules.specs.AbstractSyntax as p
 use Rattle.typing_rules.specs.Definitions.{Definitions}
 use Rattle.typing_rules.specs.Expressions.{actor_text}
 use Rattle.typing_rules.specs.Terms.{Term, unit}
+use Rattle.typing_rules.specs.TypeScopes.{TypeScope}
 use Rattle.desugaring.specs.FreeNames.{names_in}
 use Rattle.desugaring_laws.specs.GraphOf.{IsGraphOf}
-use Rattle.desugaring_laws.specs.Scopes.{HasNoFutures}
 use Rattle.desugaring_laws.specs.Written.{IsWritten, PatternIsWritten}
 use Rattle.expression_laws.specs.Results.{AreTyped}
 
@@ -92,5 +92,5 @@ module _ (Q : Expression ℕ → Type 0) where
 -- Over a graph of the types that are met and of (), an expression of one of these forms whose parts become typed trees wherever they stand becomes one.
 abbrev pub FormsAreTyped : Type 0
 FormsAreTyped =
-    (defs : Definitions) (slots : List Slot) (terms : List Term) (number : Term → TypeId) → IsGraphOf defs slots terms number → Among unit terms → HasNoFutures defs
-    → (n : ℕ) (x : Form ℕ) → PartsAre (AreTyped defs slots terms number) x → AreTyped defs slots terms number (p.exp n x)
+    (defs : Definitions) (slots : List Slot) (terms : List Term) (number : Term → TypeId) → IsGraphOf defs slots terms number → Among unit terms → (scope : TypeScope)
+    → (n : ℕ) (x : Form ℕ) → PartsAre (AreTyped defs slots terms number scope) x → AreTyped defs slots terms number scope (p.exp n x)

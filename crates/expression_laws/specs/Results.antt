@@ -17,6 +17,7 @@ use Rattle.typing_rules.specs.Expressions.{Judge}
 use Rattle.typing_rules.specs.Heads.{head}
 use Rattle.typing_rules.specs.Terms.{Term}
 use Rattle.typing_rules.specs.TypedTrees.{Typed, type_of}
+use Rattle.typing_rules.specs.TypeScopes.{TypeScope}
 use Rattle.desugaring.specs.Expressions.{tree as written_out, looped}
 use Rattle.desugaring.specs.FreeNames.{occurring}
 use Rattle.desugaring.specs.Frames.{Frame}
@@ -73,7 +74,7 @@ module _ (defs : Definitions) (slots : List Slot) (terms : List Term) (number : 
     pub below : IsBelowWanted w (type_of b)
     pub gives : Gives c o (type_of b) (standing o ls f b)
 
-  -- whatever stands around it
-  abbrev pub AreTyped : Expression ℕ → Type 0
-  AreTyped a = (e : Context) (f : Frame) (c : typed.Context) → Fits defs slots terms number (occurring a) e f c → (w : Option Term) → IsWantFine defs c.parameters w
+  -- whatever stands around it in this scope of types
+  abbrev pub AreTyped : TypeScope → Expression ℕ → Type 0
+  AreTyped scope a = (e : Context) (f : Frame) (c : typed.Context) → Fits defs slots terms number scope (occurring a) e f c → (w : Option Term) → IsWantFine defs c.parameters w
       → Yields defs terms (Judge defs e a w) (Becomes e.around e.labels f c w)

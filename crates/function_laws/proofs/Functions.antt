@@ -95,8 +95,8 @@ module _ (S : Setting) where
   abbrev Inner : Frame → Patterns Note → Frame
   Inner f qs = frames.in_function (names_in_each qs) f
 
-  module _ (e : Context) (f : Frame) (c : typed.Context) (outer : List Bytes) (fit : Fits S.defs S.slots S.terms S.number outer e f c) (gs : List ℕ) (s : TypeScope)
-      (types : IsScopeFine (gs ++ c.parameters) s) (bounds : AreBoundsIn (gs ++ c.parameters) S.defs) where
+  module _ (e : Context) (f : Frame) (c : typed.Context) (outer : List Bytes) (fit : Fits S.defs S.slots S.terms S.number S.scope outer e f c) (gs : List ℕ) (s : TypeScope)
+      (types : IsScopeFine S.defs (gs ++ c.parameters) s) (bounds : AreBoundsIn (gs ++ c.parameters) S.defs) where
     abbrev vs : List ℕ
     vs = gs ++ c.parameters
 
@@ -108,14 +108,14 @@ module _ (S : Setting) where
 
     -- what uses the parameters and these others fits in the body
     pub body_fits : (qs : Patterns ℕ) (used : List Bytes) → Distinct (names_in_each qs) → Within (without (names_in_each qs) used) outer → (ps : Taken) → ParametersTyped S vs qs ps → (r : Term) → IsKnown S.defs S.terms vs r
-        → Fits S.defs S.slots S.terms S.number used (E ps r) (Inner f ps.patterns) (C ps r)
+        → Fits S.defs S.slots S.terms S.number s used (E ps r) (Inner f ps.patterns) (C ps r)
     body_fits qs used distinct within ps i r k =
         let xs = bound_in_each ps.patterns in
         let same : names_of xs ≡ names_in_each qs = sym (names_bound_in_each ps.patterns) ∙ i.same in
-        let base = in_function_body S.defs S.slots S.terms S.number outer e f c gs s (map S.number ps.types) r fit types bounds k in
-        subst (λ x. Fits S.defs S.slots S.terms S.number used (rules.in_body Local (Some r) x (with_types s e)) (Inner f ps.patterns) (C ps r)) (sym i.scope_is)
-        (subst (λ ns. Fits S.defs S.slots S.terms S.number used (rules.in_body Local (Some r) (entered xs []) (with_types s e)) (frames.in_function ns f) (C ps r)) (sym (names_bound_in_each ps.patterns))
-        (with_pattern S.defs S.slots S.terms S.number used outer xs (λ x m. reach x (outside (names_in_each qs) used x m) same) (rules.in_body Local (Some r) [] (with_types s e)) (frames.in_function [] f)
+        let base = in_function_body S.defs S.slots S.terms S.number S.scope outer e f c gs s (map S.number ps.types) r fit types bounds k in
+        subst (λ x. Fits S.defs S.slots S.terms S.number s used (rules.in_body Local (Some r) x (with_types s e)) (Inner f ps.patterns) (C ps r)) (sym i.scope_is)
+        (subst (λ ns. Fits S.defs S.slots S.terms S.number s used (rules.in_body Local (Some r) (entered xs []) (with_types s e)) (frames.in_function ns f) (C ps r)) (sym (names_bound_in_each ps.patterns))
+        (with_pattern S.defs S.slots S.terms S.number s used outer xs (λ x m. reach x (outside (names_in_each qs) used x m) same) (rules.in_body Local (Some r) [] (with_types s e)) (frames.in_function [] f)
         (in_body (signature_of S.defs S.slots S.terms S.number gs (map S.number ps.types) (S.number r)) [] c) base (subst (λ ns. Distinct ns) (sym same) distinct) i.known))
       where
         reach : (x : Bytes) → Among x (names_in_each qs) ⊎ Among x (without (names_in_each qs) used) → names_of (bound_in_each ps.patterns) ≡ names_in_each qs → Among x (names_of (bound_in_each ps.patterns)) ⊎ Among x outer
@@ -174,7 +174,7 @@ module _ (S : Setting) (A : Place S) where
       (S.number u, refl, (Of (S.number u) ∷ [], declared, value_node S.defs S.slots S.terms S.number S.graph inner u k (F.Name 0) (Of (S.number u), refl, refl) (S.number u) (self S (S.number u))))
 
   module _ (n : ℕ) (g : Signature ℕ) (body : Expression ℕ) (none : g.generics ≡ []) (fine : AreParametersFine g.parameters) (within : Within (without (names_in_each g.parameters) (occurring body)) A.used)
-      (j : AreTyped S.defs S.slots S.terms S.number body) (w : Option Term) (k : WantKnown S A w) where
+      (j : AreTyped S.defs S.slots S.terms S.number S.scope body) (w : Option Term) (k : WantKnown S A w) where
     abbrev F' : Frame
     F' = with_entries (Unnamed ∷ []) A.frame
 
@@ -191,12 +191,13 @@ module _ (S : Setting) (A : Place S) where
     body_typed : (ps : Taken) → Taking ps → (r : Term) → Known S A r → Yields S.defs S.terms (Judge S.defs (rules.in_body Local (Some r) ps.scope Around) body (Some r)) (Ended ps r)
     body_typed ps i r kr =
         let u = t.Function (unlisted ps.types) r in
-        let fit = behind_unnamed S.defs S.slots S.terms S.number A.used Around A.frame A.context (Of (S.number u)) A.fits in
+        let fit = behind_unnamed S.defs S.slots S.terms S.number S.scope A.used Around A.frame A.context (Of (S.number u)) A.fits in
         let inner = frames.in_function (names_in_each ps.patterns) F' in
         let c = with_names (Of (S.number u) ∷ []) A.context in
         let e = rules.in_body Local (Some r) ps.scope Around in
         let d = C S Around F' c A.used fit [] A.known.types A.fits.types A.fits.bounds ps r in
-        let inside_fits = body_fits S Around F' c A.used fit [] A.known.types A.fits.types A.fits.bounds g.parameters (occurring body) fine.distinct within ps i r kr in
+        let inside_fits = subst (λ z. Fits S.defs S.slots S.terms S.number z (occurring body) e inner d) A.fits.scope_is
+        (body_fits S Around F' c A.used fit [] A.known.types A.fits.types A.fits.bounds g.parameters (occurring body) fine.distinct within ps i r kr) in
         more S.defs S.terms (Judge S.defs e body (Some r)) (Becomes S.defs S.slots S.terms S.number Other [] inner d (Some r)) (Ended ps r) (j e inner d inside_fits (Some r) kr.fine) (λ b h.
         has S A n w u (p.Function (signature g ps.patterns) b) (λ l. refl) k (λ m.
         alone_value ps.types r (function_known ps.types i.types_known r kr m) (function_of S.defs S.number sort.Local (signature g ps.patterns) (counts.in_patterns ps.patterns + counts.in_expression b) (λ q. written_out S.defs S.number q b))

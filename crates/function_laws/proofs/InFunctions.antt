@@ -38,9 +38,9 @@ same_some u v h = cc
 
 module _ (defs : Definitions) (slots : List Slot) (terms : List Term) (number : Term → TypeId) where
   -- a name that no one finds stands before the others
-  pub behind_unnamed : (used : List Bytes) (e : Context) (f : Frame) (c : typed.Context) (w : Want TypeId) → Fits defs slots terms number used e f c
-      → Fits defs slots terms number used e (with_entries (Unnamed ∷ []) f) (with_names (w ∷ []) c)
-  behind_unnamed used e f c w fit = record {
+  pub behind_unnamed : (scope : TypeScope) (used : List Bytes) (e : Context) (f : Frame) (c : typed.Context) (w : Want TypeId) → Fits defs slots terms number scope used e f c
+      → Fits defs slots terms number scope used e (with_entries (Unnamed ∷ []) f) (with_names (w ∷ []) c)
+  behind_unnamed scope used e f c w fit = record {
     names = λ x m b h.
         let i = fit.names x m b h in
         let q = found_next zero f.names x in
@@ -51,6 +51,7 @@ module _ (defs : Definitions) (slots : List Slot) (terms : List Term) (number : 
     body_is = fit.body_is;
     types = fit.types;
     bounds = fit.bounds;
+    scope_is = fit.scope_is;
   }
 
   module _ (vs gs : List ℕ) (body : Body) where
@@ -66,10 +67,10 @@ module _ (defs : Definitions) (slots : List Slot) (terms : List Term) (number : 
   signature_of gs ps r = record { sort = sort.Local; generics = gs; context = []; parameters = ps; result = r }
 
   -- in its body, before its parameters
-  pub in_function_body : (used : List Bytes) (e : Context) (f : Frame) (c : typed.Context) (gs : List ℕ) (s : TypeScope) (ps : List TypeId) (r : Term) → Fits defs slots terms number used e f c
-      → IsScopeFine (gs ++ c.parameters) s → AreBoundsIn (gs ++ c.parameters) defs → IsKnown defs terms (gs ++ c.parameters) r
-      → Fits defs slots terms number used (rules.in_body Local (Some r) [] (with_types s e)) (frames.in_function [] f) (in_body (signature_of gs ps (number r)) [] c)
-  in_function_body used e f c gs s ps r fit types bounds known = record {
+  pub in_function_body : (scope : TypeScope) (used : List Bytes) (e : Context) (f : Frame) (c : typed.Context) (gs : List ℕ) (s : TypeScope) (ps : List TypeId) (r : Term) → Fits defs slots terms number scope used e f c
+      → IsScopeFine defs (gs ++ c.parameters) s → AreBoundsIn (gs ++ c.parameters) defs → IsKnown defs terms (gs ++ c.parameters) r
+      → Fits defs slots terms number s used (rules.in_body Local (Some r) [] (with_types s e)) (frames.in_function [] f) (in_body (signature_of gs ps (number r)) [] c)
+  in_function_body scope used e f c gs s ps r fit types bounds known = record {
     names = λ x m b h.
         let i = fit.names x m b h in
         (in_function i.0, got_mapped in_function c.names (found f x).index i.0 i.1, stands_inside c.parameters gs e.body b (found f x).cell i.0 i.2);
@@ -79,4 +80,5 @@ module _ (defs : Definitions) (slots : List Slot) (terms : List Term) (number : 
     body_is = refl;
     types = types;
     bounds = bounds;
+    scope_is = refl;
   }
