@@ -467,7 +467,7 @@ module _ (vs : List ℕ) (s : TypeScope) (names : (x : Bytes) (d : TypeName) →
     fields_written_in (p.EmptyTag x rest) = (tt, fields_written_in rest)
 
 -- more type parameters
-name_more : (vs ws : List ℕ) → ((v : ℕ) → IsAmong v vs → IsAmong v ws) → (d : TypeName) → IsNameIn vs d → IsNameIn ws d
+pub name_more : (vs ws : List ℕ) → ((v : ℕ) → IsAmong v vs → IsAmong v ws) → (d : TypeName) → IsNameIn vs d → IsNameIn ws d
 name_more vs ws sub (IsParameter at) h = sub at h
 name_more vs ws sub (IsDefinition at outer own) h = each_more (λ v. IsAmong v vs) (λ v. IsAmong v ws) sub outer h
 
