@@ -1,5 +1,5 @@
 -- What a declaration of a list is written out to, wherever it stands.
-use Rattle.std.specs.Prelude.{◌≡◌, ℕ, List, [], ◌∷◌, ◌++◌, length, map, Option, Some, None}
+use Rattle.std.specs.Prelude.{◌≡◌, ℕ, List, [], ◌∷◌, ◌++◌, length, Option, Some}
 use Rattle.mo_scopes.specs.Scopes.{named}
 use Rattle.mo_types.specs.declared.node.TypeId.{TypeId}
 use Rattle.mo_types.specs.Graph.{Slot}
@@ -33,19 +33,20 @@ AreThere terms [] = Unit {0}
 AreThere terms (v ∷ vs) = Among (t.Parameter v) terms × AreThere terms vs
 
 module _ (defs : Definitions) (slots : List Slot) (terms : List Term) (number : Term → TypeId) where
-  -- what is around something that uses these names, where it is written out and where it is typed
-  pub record Standing (uses : List Bytes) (e : Context) : Type 0 where
+  -- what is around something that uses these names, where it is written out and where it is typed, with these type parameters in scope
+  pub record Standing (vs : List ℕ) (uses : List Bytes) (e : Context) : Type 0 where
     pub frame : Frame
     pub context : typed.Context
+    pub parameters : context.parameters ≡ vs
     pub fits : Fits defs slots terms number e.types uses e frame context
 
   -- a function of this name and signature
-  abbrev pub FunctionMade : List Bytes → Context → Bytes → Signature → Becomes → Type 0
-  FunctionMade uses e x s (AFunction y make) = (y ≡ x) × ((w : Standing uses e) → IsFunctionOf slots (make w.frame) w.context s)
-  FunctionMade uses e x s _ = ⊥
+  abbrev pub FunctionMade : List ℕ → List Bytes → Context → Bytes → Signature → Becomes → Type 0
+  FunctionMade vs uses e x s (AFunction y make) = (y ≡ x) × ((w : Standing vs uses e) → IsFunctionOf slots (make w.frame) w.context s)
+  FunctionMade vs uses e x s _ = ⊥
 
   -- A step is typed, and each of these names stands for what it is bound to.
-  pub record StepTyped (uses : List Bytes) (e : Context) (binds : List Entry) (step : Frame → Step) (xs : List Bytes) (scope : Scope) (w : Standing uses e) : Type 0 where
+  pub record StepTyped (vs : List ℕ) (uses : List Bytes) (e : Context) (binds : List Entry) (step : Frame → Step) (xs : List Bytes) (scope : Scope) (w : Standing vs uses e) : Type 0 where
     pub wants : List (Want TypeId)
     pub declares : Declares slots (step w.frame) w.context wants
     pub many : length wants ≡ length binds
@@ -53,15 +54,15 @@ module _ (defs : Definitions) (slots : List Slot) (terms : List Term) (number : 
         → StandsIn defs slots terms number w.context.parameters e.body (binds ++ rest) (wants ++ ms) y b
 
   -- a step that binds these names so
-  abbrev pub StepMade : List Bytes → Context → List Bytes → Scope → Becomes → Type 0
-  StepMade uses e xs scope (AStep binds step) =
-      (entry_names binds ≡ xs) × ((y : Bytes) → (Among y xs → ⊥) → (u : Scope) → named (scope ++ u) y ≡ named u y) × ((w : Standing uses e) → StepTyped uses e binds step xs scope w)
-  StepMade uses e xs scope _ = ⊥
+  abbrev pub StepMade : List ℕ → List Bytes → Context → List Bytes → Scope → Becomes → Type 0
+  StepMade vs uses e xs scope (AStep binds step) =
+      (entry_names binds ≡ xs) × ((y : Bytes) → (Among y xs → ⊥) → (u : Scope) → named (scope ++ u) y ≡ named u y) × ((w : Standing vs uses e) → StepTyped vs uses e binds step xs scope w)
+  StepMade vs uses e xs scope _ = ⊥
 
   -- a value of this type, which is below the one that is wanted
-  abbrev pub ValueMade : List Bytes → Context → Option Term → Option Term → Becomes → Type 0
-  ValueMade uses e w (Some u) (AnExpression x) = (s : Standing uses e) → IsBelowWanted defs slots terms number w u × GivesValue defs slots terms number s.context u (x s.frame)
-  ValueMade uses e w _ _ = ⊥
+  abbrev pub ValueMade : List ℕ → List Bytes → Context → Option Term → Option Term → Becomes → Type 0
+  ValueMade vs uses e w (Some u) (AnExpression x) = (s : Standing vs uses e) → IsBelowWanted defs slots terms number w u × GivesValue defs slots terms number s.context u (x s.frame)
+  ValueMade vs uses e w _ _ = ⊥
 
   -- of the one declaration that is given
   abbrev pub OneMade : (Becomes → Type 0) → Given → Type 0

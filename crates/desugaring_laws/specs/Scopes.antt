@@ -47,8 +47,9 @@ module _ (vs : List ℕ) where
 abbrev pub IsNoFuture : Definitions → ℕ → Type 0
 IsNoFuture defs at = (n : ℕ) (a : Term) → reaches defs.types n at ≡ Some (t.Async a) → ⊥
 
--- names of types, where these type parameters are in scope
+-- names of types, where these type parameters and no others are in scope
 pub record IsScopeFine (defs : Definitions) (vs : List ℕ) (s : TypeScope) : Type 0 where
   pub names : (x : Bytes) (d : TypeName) → type_named s x ≡ Some d → IsNameIn s.parameters d
   pub futures : (x : Bytes) (at : ℕ) (outer : List ℕ) (own : ℕ) → type_named s x ≡ Some (IsDefinition at outer own) → IsNoFuture defs at
   pub parameters : Each (λ v. IsAmong v vs) s.parameters
+  pub others : Each (λ v. IsAmong v s.parameters) vs

@@ -51,7 +51,7 @@ over_same [] s s' x h = h
 over_same (y ∷ xs) s s' x h = over_same xs ((y.0, constant y.1) ∷ s) ((y.0, constant y.1) ∷ s') x (ap (λ z. cond (bytes_eq x y.0) (Some (constant y.1)) z) h)
 
 -- a name that is none of those that are entered
-not_entered : (xs : Names) (s : Scope) (x : Bytes) → Each (λ y. x ≢ y) (names_of xs) → named (entered xs s) x ≡ named s x
+pub not_entered : (xs : Names) (s : Scope) (x : Bytes) → Each (λ y. x ≢ y) (names_of xs) → named (entered xs s) x ≡ named s x
 not_entered [] s x d = refl
 not_entered (y ∷ xs) s x d = not_entered xs ((y.0, constant y.1) ∷ s) x d.1 ∙ by (bytes_eq x y.0) refl where
   by : (b : Bool) → bytes_eq x y.0 ≡ b → cond (bytes_eq x y.0) (Some (constant y.1)) (named s x) ≡ named s x
@@ -73,7 +73,7 @@ module _ (defs : Definitions) (slots : List Slot) (terms : List Term) (number : 
     abbrev StandsAt : Use → List (Want TypeId) → Bound → Type 0
     StandsAt x ns b = (w : Want TypeId) × (slice_get ns x.index ≡ Some w) × StandsFor defs slots terms number vs body b x.cell w
 
-    names_stand : (outer : List Bytes) (xs : Names) → Distinct (names_of xs) → Each (λ x. IsKnown defs terms vs x.1) xs → (s : Scope) (es : List Entry) (ns : List (Want TypeId))
+    pub names_stand : (outer : List Bytes) (xs : Names) → Distinct (names_of xs) → Each (λ x. IsKnown defs terms vs x.1) xs → (s : Scope) (es : List Entry) (ns : List (Want TypeId))
         → ((y : Bytes) → Among y outer → (b : Bound) → named s y ≡ Some b → StandsIn es ns y b) → (y : Bytes) → Among y (names_of xs) ⊎ Among y outer → (b : Bound) → named (entered xs s) y ≡ Some b
         → StandsIn (map value (names_of xs) ++ es) (wants number xs ++ ns) y b
     names_stand outer [] d k s es ns h y (inl m) b e = absurd m

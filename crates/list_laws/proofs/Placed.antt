@@ -160,7 +160,7 @@ module _ (defs : Definitions) (slots : List Slot) (terms : List Term) (number : 
 
     passes : (n : ℕ) (last : Bool) (d : Declared) (b : Becomes) (x : Fact) → nth n facts ≡ Some x → IsFact n last d b x → stages.Passes slots all pieces has_value At of_list n last b
     passes n last d (AStep binds step) (Evaluates xs s) e i = λ f c h.
-        let q = i.typed f c (around_at (suc n) n f c h d.occurs i.there) in (
+        let q = i.typed f c (around_at (suc n) n f c h i.uses i.there) in (
           q.0,
           q.1,
           record {
@@ -188,8 +188,8 @@ module _ (defs : Definitions) (slots : List Slot) (terms : List Term) (number : 
             stands_beyond defs slots terms number vs body binds f.names ns c.names y b (λ m. absent (subst (λ z. Among y z) i.names m)) many
             (h.stand y (earlier y absent r) b (sym (i.others y absent (scope_at n facts base)) ∙ (ap (λ z. named z y) (sym (scope_next n facts base xs s e)) ∙ k)))
     passes n last d (AFunction y g) (IsFunction x p b w) e i = λ f c h. stays n (IsFunction x p b w) e tt f c h
-    passes n true d (AnExpression v) Other e i = λ f c h. i.typed f c (around_at (suc n) n f c h d.occurs i.there)
-    passes n false d (AnExpression v) Other e i = λ f c h. (i.typed f c (around_at (suc n) n f c h d.occurs i.there), stays n Other e tt f c h)
+    passes n true d (AnExpression v) Other e i = λ f c h. i.typed f c (around_at (suc n) n f c h i.uses i.there)
+    passes n false d (AnExpression v) Other e i = λ f c h. (i.typed f c (around_at (suc n) n f c h i.uses i.there), stays n Other e tt f c h)
     passes n last d Nothing Other e i = λ f c h. stays n Other e tt f c h
     passes n last d (AStep binds step) (IsFunction x p b w) e i = absurd i
     passes n last d (AStep binds step) Other e i = absurd i

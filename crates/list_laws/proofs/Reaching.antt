@@ -22,7 +22,7 @@ abbrev pub shifted : List Entry → Use → Use
 shifted [] u = u
 shifted (e ∷ es) u = next (shifted es u)
 
-unequal : (x y : Bytes) → (y ≡ x → ⊥) → bytes_eq x y ≡ false
+pub unequal : (x y : Bytes) → (y ≡ x → ⊥) → bytes_eq x y ≡ false
 unequal x y n = by (bytes_eq x y) refl where
   by : (b : Bool) → bytes_eq x y ≡ b → bytes_eq x y ≡ false
   by true e = absurd (n (sym ((bytes_eq-Decides x y).0 e)))

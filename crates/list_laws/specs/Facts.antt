@@ -83,9 +83,10 @@ module _ (defs : Definitions) (slots : List Slot) (terms : List Term) (number : 
     pub body_is : c.body ≡ c0.body
     pub parameters : c.parameters ≡ c0.parameters
 
-  -- a declaration that is evaluated, with its names and what they stand for
-  pub record StepFact (n : ℕ) (uses : List Bytes) (binds : List Entry) (step : Frame → Step) (xs : List Bytes) (s : Scope) : Type 0 where
+  -- a declaration that is evaluated, with its names and what they stand for, and the names that it uses
+  pub record StepFact (n : ℕ) (binds : List Entry) (step : Frame → Step) (xs : List Bytes) (s : Scope) : Type 0 where
     pub names : entry_names binds ≡ xs
+    pub uses : List Bytes
     pub there : (y : Bytes) → Among y uses → Reach (suc n) n y
     pub others : (y : Bytes) → (Among y xs → ⊥) → (u : Scope) → named (s ++ u) y ≡ named u y
     pub typed : (f : Frame) (c : Context) → Around uses (scope_at n facts base) f c
@@ -103,23 +104,25 @@ module _ (defs : Definitions) (slots : List Slot) (terms : List Term) (number : 
     pub no_context : signature.context ≡ []
     pub named_so : NameOf (head_at slots) signature w
     -- what it uses stands around it, and is bound so at the end of the list
-    pub there : (z : Bytes) → Among z d.occurs → Reach (suc p) p z × (named (scope_at (length facts) facts base) z ≡ named (scope_at p facts base) z)
-    pub typed : (f : Frame) (c : Context) → Around d.occurs (scope_at (length facts) facts base) f c → IsFunctionOf slots (g f) c signature
+    pub uses : List Bytes
+    pub there : (z : Bytes) → Among z uses → Reach (suc p) p z × (named (scope_at (length facts) facts base) z ≡ named (scope_at p facts base) z)
+    pub typed : (f : Frame) (c : Context) → Around uses (scope_at (length facts) facts base) f c → IsFunctionOf slots (g f) c signature
 
   -- an expression serves where the value of the list is to serve, if it is its last, and else anywhere
   abbrev pub Gives : Bool → Want TypeId → TypedExpression → Context → Type 0
   Gives true of_list e c = Typed slots e c of_list
   Gives false of_list e c = (w : Want TypeId) × Typed slots e c w
 
-  pub record ValueFact (of_list : Want TypeId) (n : ℕ) (is_last : Bool) (uses : List Bytes) (e : Frame → TypedExpression) : Type 0 where
+  pub record ValueFact (of_list : Want TypeId) (n : ℕ) (is_last : Bool) (e : Frame → TypedExpression) : Type 0 where
+    pub uses : List Bytes
     pub there : (y : Bytes) → Among y uses → Reach (suc n) n y
     pub typed : (f : Frame) (c : Context) → Around uses (scope_at n facts base) f c → Gives is_last of_list (e f) c
 
   module _ (all : List Declared) (pieces : List Piece) (has_value : Bool) (of_list : Want TypeId) where
     abbrev pub IsFact : ℕ → Bool → Declared → Becomes → Fact → Type 0
-    IsFact n is_last d (AStep binds step) (Evaluates xs s) = StepFact n d.occurs binds step xs s
+    IsFact n is_last d (AStep binds step) (Evaluates xs s) = StepFact n binds step xs s
     IsFact n is_last d (AFunction y g) (IsFunction x p b w) = FunctionFact all d y g x p b w
-    IsFact n is_last d (AnExpression e) Other = ValueFact of_list n is_last d.occurs e
+    IsFact n is_last d (AnExpression e) Other = ValueFact of_list n is_last e
     IsFact n is_last d Nothing Other = Unit {0}
     IsFact n is_last d _ _ = ⊥
 

@@ -1,15 +1,15 @@
 -- Bounds of type parameters mention only those in scope.
-use Rattle.std.proofs.Common.{◌≡◌, ◌⊎◌, inl, inr, ℕ, List, [], ◌∷◌, ◌++◌, Option, Some, None, sym, ap, subst}
+use Rattle.std.proofs.Common.{◌≡◌, ◌⊎◌, inl, inr, ℕ, List, [], ◌∷◌, ◌++◌, Option, Some, None, sym, subst}
 use Rattle.mo_types.specs.Sub.{Each}
 use Rattle.typed_tree.specs.Instances.{IsAmong}
-use Rattle.typing_rules.specs.AbstractSyntax.{Named, TypeNode, TypeParameter, Signature}
+use Rattle.typing_rules.specs.AbstractSyntax.{TypeNode, TypeParameter}
 use Rattle.typing_rules.specs.DeclaredTypes.{within}
 use Rattle.typing_rules.specs.Definitions.{Definitions, bound_at}
 use Rattle.typing_rules.specs.Gathered.{bounded}
 use Rattle.typing_rules.specs.Terms.{Term, Terms, Fields}
 use Rattle.typing_rules.specs.Terms as t
 use Rattle.typing_rules.specs.TypeScopes.{TypeScope, names_of, places_of, term_or}
-use Rattle.desugaring_laws.specs.Scopes.{IsIn, AreIn, FieldsAreIn, IsScopeFine, AreBoundsIn}
+use Rattle.desugaring_laws.specs.Scopes.{IsIn, AreIn, FieldsAreIn, IsScopeFine}
 use Rattle.desugaring_laws.proofs.Scoping.{names_in, written_in}
 use Rattle.desugaring_laws.proofs.Weakening.{among_behind}
 use Rattle.scope_laws.specs.Laws.{BoundsStayIn}

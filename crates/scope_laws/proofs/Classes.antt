@@ -1,20 +1,17 @@
 -- The types of classes.
-use Rattle.std.proofs.Common.{◌≡◌, ◌⊎◌, inl, inr, ℕ, suc, Bool, true, false, not, List, [], ◌∷◌, ◌++◌, length, map, Option, Some, None, refl, sym, ap, ap₂, ◌∙◌, subst}
+use Rattle.std.proofs.Common.{◌≡◌, inl, inr, ℕ, Bool, true, false, not, List, [], ◌∷◌, ◌++◌, length, map, Some, refl, sym, ap, ap₂, ◌∙◌, subst}
 use Rattle.std.proofs.lemmas.Bool.{eqb-true}
 use Rattle.std.proofs.Math.Facts.{eqb_no}
 use Rattle.std.specs.Prelude.{T, cond, nat_eq}
 use Rattle.mo_types.specs.declared.node.Node.TheVariants as node
-use Rattle.mo_types.specs.Sub.{Each}
 use Rattle.typed_tree.specs.Instances.{IsAmong}
-use Rattle.typing_rules.specs.AbstractSyntax.{Bytes, Named, Signature, Declarations}
-use Rattle.typing_rules.specs.AbstractSyntax as p
-use Rattle.typing_rules.specs.DeclaredTypes.{within, with_list, class_type, member_fields}
+use Rattle.typing_rules.specs.DeclaredTypes.{within, with_list, member_fields}
 use Rattle.typing_rules.specs.Definitions.{Definition, Definitions, definition_at, at_reached, found_of, parameters_of, followed, each_followed, followed_right, reaches, reached, or_bottom, unfolded}
 use Rattle.typing_rules.specs.Gathered.{class_object}
 use Rattle.typing_rules.specs.Heads.{shape, head}
 use Rattle.typing_rules.specs.Terms.{Term, Terms, Fields, unlisted, listed_fields, put_in, each_put_in, fields_put_in, argument_of}
 use Rattle.typing_rules.specs.Terms as t
-use Rattle.typing_rules.specs.TypeScopes.{TypeScope, names_of, places_of}
+use Rattle.typing_rules.specs.TypeScopes.{names_of, places_of}
 use Rattle.desugaring_laws.specs.Scopes.{IsIn, AreIn, FieldsAreIn}
 use Rattle.scope_laws.specs.Laws.{ClassesAreObjects}
 use Rattle.scope_laws.proofs.Members.{members_in}

@@ -1,18 +1,18 @@
 -- Definitions that are as they have to be lead to no futures.
-use Rattle.std.proofs.Common.{◌≡◌, ◌⊎◌, inl, inr, ℕ, zero, suc, List, [], ◌∷◌, ◌++◌, Option, Some, None, refl, sym, ap, ◌∙◌, subst}
+use Rattle.std.proofs.Common.{◌≡◌, ◌⊎◌, inl, inr, ℕ, zero, suc, List, Option, Some, sym, subst}
 use Rattle.mo_types.specs.Sub.{Each}
 use Rattle.typed_tree.specs.Instances.{IsAmong}
 use Rattle.typing_rules.specs.AbstractSyntax.{Bytes, Named, TypeNode, Declaration, Declarations}
 use Rattle.typing_rules.specs.AbstractSyntax as p
-use Rattle.typing_rules.specs.DeclaredTypes.{within, with_list}
+use Rattle.typing_rules.specs.DeclaredTypes.{with_list}
 use Rattle.typing_rules.specs.Definitions.{Definition, Definitions, definition_at, followed, followed_right, reaches}
-use Rattle.typing_rules.specs.Gathered.{in_list, in_declaration, in_expression, class_object, defined, of_generics}
+use Rattle.typing_rules.specs.Gathered.{in_list, in_declaration, defined}
 use Rattle.typing_rules.specs.Signatures.{DefinitionOf, DefinitionsOf}
 use Rattle.typing_rules.specs.Terms.{Term}
 use Rattle.typing_rules.specs.Terms as t
 use Rattle.typing_rules.specs.Types.{Proper, Defines}
-use Rattle.typing_rules.specs.TypeScopes.{TypeName, IsDefinition, TypeScope, type_named, with_parameters, names_of, places_of, term}
-use Rattle.desugaring_laws.specs.Scopes.{IsNoFuture, IsScopeFine}
+use Rattle.typing_rules.specs.TypeScopes.{IsDefinition, TypeScope, type_named, with_parameters, term}
+use Rattle.desugaring_laws.specs.Scopes.{IsScopeFine}
 use Rattle.desugaring_laws.specs.Yields.{Yields}
 use Rattle.desugaring_laws.proofs.Scoping.{proper_no_future}
 use Rattle.desugaring_laws.proofs.Yielding.{anything, more, part as after}
@@ -103,6 +103,7 @@ module _ (defs : Definitions) (terms : List Term) (vs : List ℕ) (s : TypeScope
       names = names_with_list ds s fine.names;
       futures = λ x at outer own e n. to_depth n x at outer own e;
       parameters = subst (λ ps. Each (λ v. IsAmong v vs) ps) (sym (parameters_listed ds s)) fine.parameters;
+      others = subst (λ ps. Each (λ v. IsAmong v ps) vs) (sym (parameters_listed ds s)) fine.others;
     }
 
 pub lists_stay_fine : ListsStayFine

@@ -1,13 +1,13 @@
 -- The types of public fields mention only type parameters in scope.
-use Rattle.std.proofs.Common.{◌≡◌, ℕ, true, false, List, [], ◌∷◌, map, Option, Some, None, refl, sym, ap, subst}
+use Rattle.std.proofs.Common.{◌≡◌, ℕ, true, false, List, [], ◌∷◌, map, Option, Some, None, sym, subst}
 use Rattle.mo_types.specs.Sub.{Each}
 use Rattle.typed_tree.specs.Instances.{IsAmong}
 use Rattle.typing_rules.specs.AbstractSyntax.{Bytes, Named, TypeNode, Pattern, Patterns, PatternFields, Signature, Declaration, Declarations}
 use Rattle.typing_rules.specs.AbstractSyntax as p
-use Rattle.typing_rules.specs.DeclaredTypes.{within, pattern_term, parameter_terms, function_term, class_type, class_term, pattern_fields, patterns_fields, fields_fields, declared_fields, member_fields}
+use Rattle.typing_rules.specs.DeclaredTypes.{pattern_term, parameter_terms, function_term, class_type, class_term, pattern_fields, patterns_fields, fields_fields, declared_fields, member_fields}
 use Rattle.typing_rules.specs.Terms.{Term, Terms, Fields, unlisted}
 use Rattle.typing_rules.specs.Terms as t
-use Rattle.typing_rules.specs.TypeScopes.{TypeName, TypeScope, type_named, with_parameters, names_of, term, term_or}
+use Rattle.typing_rules.specs.TypeScopes.{TypeName, TypeScope, type_named, with_parameters, names_of, term_or}
 use Rattle.desugaring_laws.specs.Scopes.{IsIn, AreIn, FieldsAreIn, IsNameIn}
 use Rattle.desugaring_laws.proofs.Scoping.{written_in}
 use Rattle.scope_laws.specs.Gathers.{IsPlainField, ArePlainFields}
@@ -29,7 +29,7 @@ module _ (vs : List ℕ) (s : TypeScope) (names : (x : Bytes) (d : TypeName) →
   pattern_in (p.pattern n (p.Tuple items)) = tt
   pattern_in (p.pattern n (p.Object fields)) = tt
 
-  parameters_in : (qs : Patterns ℕ) → AreIn vs (parameter_terms s qs)
+  pub parameters_in : (qs : Patterns ℕ) → AreIn vs (parameter_terms s qs)
   parameters_in p.Nil = tt
   parameters_in (p.Cons q rest) = (pattern_in q, parameters_in rest)
 
@@ -37,7 +37,7 @@ module _ (vs : List ℕ) (s : TypeScope) (names : (x : Bytes) (d : TypeName) →
   function_in g e =
       subst (λ gs. IsIn vs (t.Function (parameter_terms (with_parameters s (names_of gs)) g.parameters) (term_or (with_parameters s (names_of gs)) g.result t.unit))) (sym e) (parameters_in g.parameters, or_in g.result t.unit tt)
 
-  each_parameter : (ps : List ℕ) → Each (λ v. IsAmong v vs) ps → AreIn vs (unlisted (map t.Parameter ps))
+  pub each_parameter : (ps : List ℕ) → Each (λ v. IsAmong v vs) ps → AreIn vs (unlisted (map t.Parameter ps))
   each_parameter [] h = tt
   each_parameter (v ∷ ps) h = (h.0, each_parameter ps h.1)
 

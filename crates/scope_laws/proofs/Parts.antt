@@ -1,5 +1,5 @@
 -- Definitions of parts, and type parameters that are among others.
-use Rattle.std.proofs.Common.{◌≡◌, ◌⊎◌, inl, inr, ℕ, List, [], ◌∷◌, ◌++◌, refl, sym, ap, subst}
+use Rattle.std.proofs.Common.{◌⊎◌, inl, inr, ℕ, List, [], ◌∷◌, ◌++◌, refl}
 use Rattle.mo_types.specs.Sub.{Each}
 use Rattle.typed_tree.specs.Instances.{IsAmong}
 use Rattle.typing_rules.specs.Definitions.{Definitions}

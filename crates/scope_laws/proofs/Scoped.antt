@@ -1,5 +1,5 @@
 -- Names of types, with those of type parameters and of definitions.
-use Rattle.std.proofs.Common.{◌≡◌, ◌⊎◌, inl, inr, ℕ, Bool, true, false, List, [], ◌∷◌, ◌++◌, length, map, Option, Some, None, refl, sym, ap, ◌∙◌, subst}
+use Rattle.std.proofs.Common.{◌≡◌, ◌⊎◌, inl, inr, ℕ, Bool, true, false, List, [], ◌∷◌, ◌++◌, length, Option, Some, refl, sym, ◌∙◌, subst}
 use Rattle.std.proofs.lemmas.List.{append_assoc, append-nil}
 use Rattle.std.specs.Prelude.{cond}
 use Rattle.std.specs.Str.{bytes_eq}
@@ -9,13 +9,12 @@ use Rattle.typed_tree.specs.Instances.{IsAmong}
 use Rattle.typing_rules.specs.AbstractSyntax.{Bytes, Named, Declaration, Declarations}
 use Rattle.typing_rules.specs.AbstractSyntax as p
 use Rattle.typing_rules.specs.DeclaredTypes.{with_declared, with_list}
-use Rattle.typing_rules.specs.Definitions.{Definitions}
 use Rattle.typing_rules.specs.TypeScopes.{TypeName, IsParameter, IsDefinition, TypeScope, type_named, with_parameter, with_parameters, with_definition, places_of}
-use Rattle.desugaring_laws.specs.Scopes.{IsNameIn, IsNoFuture, IsScopeFine}
+use Rattle.desugaring_laws.specs.Scopes.{IsNameIn}
 use Rattle.desugaring_laws.proofs.Scoping.{each_among_of, name_more}
 use Rattle.desugaring_laws.proofs.Weakening.{among_behind, each_more}
 use Rattle.scope_laws.specs.Laws.{ParametersStayFine}
-use Rattle.scope_laws.proofs.Parts.{among_first, among_last, each_of}
+use Rattle.scope_laws.proofs.Parts.{among_first, among_last, among_split, each_of}
 
 -- each name is one in the scope of the type parameters there
 abbrev pub AreNamesIn : TypeScope → Type 0
@@ -67,10 +66,15 @@ parameters_stay_fine defs vs s fine xs = record {
   names = names_with_parameters xs s fine.names;
   futures = λ y at outer own e. fine.futures y at outer own (definition_named xs s y at outer own e);
   parameters = subst (λ ps. Each (λ v. IsAmong v (places_of xs ++ vs)) ps) (sym (parameters_with xs s)) (each_joined s.parameters (places_of xs)
-  (each_more (λ v. IsAmong v vs) (λ v. IsAmong v (places_of xs ++ vs)) (λ v m. among_behind (places_of xs) vs v m) s.parameters fine.parameters)
-  (each_of (λ v. IsAmong v (places_of xs ++ vs)) (places_of xs) (λ v m. among_first (places_of xs) vs v m)));
+      (each_more (λ v. IsAmong v vs) (λ v. IsAmong v (places_of xs ++ vs)) (λ v m. among_behind (places_of xs) vs v m) s.parameters fine.parameters)
+      (each_of (λ v. IsAmong v (places_of xs ++ vs)) (places_of xs) (λ v m. among_first (places_of xs) vs v m)));
+  others = subst (λ ps. Each (λ v. IsAmong v ps) (places_of xs ++ vs)) (sym (parameters_with xs s)) (each_of (λ v. IsAmong v (s.parameters ++ places_of xs)) (places_of xs ++ vs) (λ v m. other v (among_split (places_of xs) vs v m)));
 }
   where
+    other : (v : ℕ) → IsAmong v (places_of xs) ⊎ IsAmong v vs → IsAmong v (s.parameters ++ places_of xs)
+    other v (inl m) = among_behind s.parameters (places_of xs) v m
+    other v (inr m) = among_first s.parameters (places_of xs) v (each_among_of vs (λ u. IsAmong u s.parameters) fine.others v m)
+
     each_joined : (ps qs : List ℕ) → Each (λ v. IsAmong v (places_of xs ++ vs)) ps → Each (λ v. IsAmong v (places_of xs ++ vs)) qs → Each (λ v. IsAmong v (places_of xs ++ vs)) (ps ++ qs)
     each_joined [] qs h k = k
     each_joined (q ∷ ps) qs h k = (h.0, each_joined ps qs h.1 k)

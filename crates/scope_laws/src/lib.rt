@@ -3,8 +3,7 @@
 
 mod laws;
 
-pub use laws::bounds_stay_in;
-pub use laws::classes_are_objects;
-pub use laws::lists_stay_fine;
-pub use laws::parameters_stay_fine;
-pub use laws::public_fields_are_plain;
+pub use laws::{
+    bounds_stay_in, classes_are_objects, lists_stay_fine, parameters_stay_fine,
+    public_fields_are_plain,
+};

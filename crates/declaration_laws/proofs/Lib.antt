@@ -1,0 +1,10 @@
+pub mod Reading
+pub mod Signing
+pub mod Functions
+pub mod Values
+pub mod Variables
+pub mod Entered
+pub mod Lets
+pub mod Facts
+pub mod Objects
+pub mod Blocks
