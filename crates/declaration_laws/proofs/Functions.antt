@@ -61,13 +61,13 @@ parameter_head : (defs : Definitions) (v : ℕ) → head defs (t.Parameter v) �
 unfolding head
 parameter_head defs v = refl
 
-last_among : (us : List Term) (r : Term) → Among r (us ++ r ∷ [])
+pub last_among : (us : List Term) (r : Term) → Among r (us ++ r ∷ [])
 last_among [] r = inl refl
 last_among (u ∷ us) r = inr (last_among us r)
 
 module _ (S : Setting) where
   -- type parameters that stand for themselves, and no others in scope
-  are_parameters : (scope vs : List ℕ) → ((v : ℕ) → IsAmong v vs → IsAmong v scope) → (gs : List ℕ) → AreFresh scope gs → AreThere S.terms gs → AreParameters (head_at S.slots) vs (map (λ n. S.number (t.Parameter n)) gs) gs
+  pub are_parameters : (scope vs : List ℕ) → ((v : ℕ) → IsAmong v vs → IsAmong v scope) → (gs : List ℕ) → AreFresh scope gs → AreThere S.terms gs → AreParameters (head_at S.slots) vs (map (λ n. S.number (t.Parameter n)) gs) gs
   are_parameters scope vs sub [] fresh there = tt
   are_parameters scope vs sub (v ∷ gs) fresh there = (
     S.number (bound_at S.defs.parameters v),

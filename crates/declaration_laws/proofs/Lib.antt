@@ -8,3 +8,4 @@ pub mod Lets
 pub mod Facts
 pub mod Objects
 pub mod Blocks
+pub mod Classes

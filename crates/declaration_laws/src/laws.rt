@@ -1,4 +1,5 @@
 //! Declarations of lists are written out to typed ones.
+ghost use Rattle.declaration_laws.specs.Classes.{ClassesAreTyped};
 ghost use Rattle.declaration_laws.specs.Objects.{BlocksAreTyped, ObjectsAreTyped, NamedObjectsAreTyped};
 ghost use Rattle.declaration_laws.specs.Laws.{SignaturesAreKnown, DeclaredFunctionsAreTyped, LetsAreTyped, VariablesAreTyped, ValuesAreTyped, StepsAreFacts, ValuesAreFacts, FunctionsAreFacts};
 
@@ -55,4 +56,9 @@ pub fn objects_are_typed()
 /// A block, whose list becomes one wherever it stands, becomes a typed tree.
 pub fn blocks_are_typed()
     ensures { BlocksAreTyped }
+{}
+
+/// A class of a list, whose fields become an object wherever they stand, becomes a function of its signature.
+pub fn classes_are_typed()
+    ensures { ClassesAreTyped }
 {}

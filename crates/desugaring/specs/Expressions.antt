@@ -1,6 +1,6 @@
 -- Expressions and declarations written out, one clause for each form (Motoko language manual, sections "Expressions" and "Declarations"). Derived forms
 -- become the forms of typed trees; each node keeps its type.
-use Rattle.std.specs.Prelude.{ℕ, ◌+◌, Bool, true, false, List, [], ◌∷◌, ◌++◌, map, Option, Some, None}
+use Rattle.std.specs.Prelude.{ℕ, suc, ◌+◌, Bool, true, false, List, [], ◌∷◌, ◌++◌, map, Option, Some, None}
 use Rattle.mo_types.specs.declared.node.Node.{Node}
 use Rattle.mo_types.specs.declared.node.Node.TheVariants as node
 use Rattle.mo_types.specs.declared.node.Field.{Field}
@@ -241,8 +241,9 @@ module _ (defs : Definitions) (number : Term → TypeId) where
     becomes n (p.Method query context x g body) = Nothing
     becomes n (p.System x body) = Nothing
     becomes n (p.TypeAlias x parameters u) = Nothing
+    -- the object that a class makes is a node of its body
     becomes n (p.Class x g fields) =
-        AFunction x.bytes (function_of sort.Local g (counts.in_patterns g.parameters + counts.in_list fields)
+        AFunction x.bytes (function_of sort.Local g (suc (counts.in_patterns g.parameters + counts.in_list fields))
         (λ inner. object_of_names n.type (public_names fields) (arranged false (pieces fields) inner)))
     becomes n (p.NamedObject x fields) = AStep (value x.bytes ∷ []) (λ f. roll-Step (F.Let (bound n.type) (object_of_names n.type (public_names fields) (arranged false (pieces fields) f))))
     becomes n (p.Evaluate a) = AnExpression (λ f. tree f a)

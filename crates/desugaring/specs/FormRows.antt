@@ -35,8 +35,11 @@ function = t.Function (t.Cons nat t.Nil) nat
 abbrev pub an_object : Term
 an_object = t.Object (t.constant (codes "x") nat t.NoFields)
 
+abbrev pub an_empty_object : Term
+an_empty_object = t.Object t.NoFields
+
 abbrev pub terms : List Term
-terms = nat ∷ unit ∷ t.Boolean ∷ t.Bottom ∷ t.Optional nat ∷ t.MutableArray nat ∷ function ∷ an_object ∷ []
+terms = nat ∷ unit ∷ t.Boolean ∷ t.Bottom ∷ t.Optional nat ∷ t.MutableArray nat ∷ function ∷ an_object ∷ an_empty_object ∷ []
 
 abbrev pub number : Term → TypeId
 number u = number_in terms u
@@ -158,6 +161,10 @@ a_list = judged nat (p.Block (p.Then false (note 0 nat) (p.Let (bound (codes "y"
     (p.Then false (note 0 nat) (p.Let (bound (codes "z")) one)
     (p.Then false (note 0 nat) (p.Evaluate (judged nat (p.Call (named function (codes "f")) None (p.Cons one p.Nil)))) p.End)))))
 
+-- `{ class C() {}; 1 }`: the object that C makes is one of its nodes
+abbrev pub a_class : Expression Note
+a_class = judged nat (p.Block (p.Then false (note 0 an_empty_object) (p.Class (token 0 (codes "C")) (record { generics = []; parameters = p.Nil; result = None }) p.End) (evaluated one p.End)))
+
 abbrev pub declarations : List Row
 declarations =
     row a_function
@@ -176,4 +183,13 @@ declarations =
     roll-Step (F.Functions (roll-Function (record { sort = sort.Local; type_parameters = []; nodes = 2; parameters = a_name ∷ []; body = name_of nat 2 }) ∷ [])) ∷
     roll-Step (F.Let a_name one_there) ∷ [])
     (at nat (F.Do action.Call (name_of function 1 ∷ one_there ∷ [])))))
+    ∷ row a_class
+    (at nat (F.Block
+    (roll-Step (F.Functions (roll-Function (record {
+      sort = sort.Local;
+      type_parameters = [];
+      nodes = 1;
+      parameters = [];
+      body = at an_empty_object (F.Block [] (at an_empty_object (F.Do (action.Operate (op.MakeObject [])) [])));
+    }) ∷ [])) ∷ []) one_there))
     ∷ []

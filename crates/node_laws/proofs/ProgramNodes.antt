@@ -16,7 +16,7 @@ use Rattle.desugaring.specs.Frames.{kept_at}
 use Rattle.desugaring.specs.Patterns as made
 use Rattle.desugaring.specs.Pieces.{arranged}
 use Rattle.desugaring.specs.Programs.{own_nodes, own_nodes_of, around}
-use Rattle.node_laws.specs.Laws.{FunctionsAreCovered, ProgramsAreCovered}
+use Rattle.node_laws.specs.Laws.{FunctionsAreCovered, ClassesAreCovered, ProgramsAreCovered}
 use Rattle.node_laws.proofs.Arranging.{each, sum}
 use Rattle.node_laws.proofs.Arranging as arranging
 use Rattle.node_laws.proofs.Equations.{let_nodes, var_nodes, stable_nodes, evaluated_nodes, functions_nodes}
@@ -73,6 +73,9 @@ module _ (defs : Definitions) (number : Term → TypeId) where
 
 pub functions_are_covered : FunctionsAreCovered
 functions_are_covered defs number f qs a = omega (arith, patterns_covered defs number qs, tree_nodes defs number f a)
+
+pub classes_are_covered : ClassesAreCovered
+classes_are_covered defs number f u qs fields = omega (arith, patterns_covered defs number qs, object_list defs number u fields (pieces_cost defs number fields) f)
 
 pub programs_are_covered : ProgramsAreCovered
 programs_are_covered defs number types program =

@@ -568,7 +568,7 @@ module _ (defs : Definitions) (number : Term → TypeId) where
     piece_cost n (p.Class x g fields) = λ f.
         omega (
           arith,
-          function_cost g (counts.in_patterns g.parameters + counts.in_list fields) (λ inner. object_of_names defs number n.type (public_names fields) (arranged false (pieces defs number fields) inner)) f,
+          function_cost g (suc (counts.in_patterns g.parameters + counts.in_list fields)) (λ inner. object_of_names defs number n.type (public_names fields) (arranged false (pieces defs number fields) inner)) f,
           patterns_covered defs number g.parameters,
           object_list n.type fields (pieces_cost fields) (in_function (names_in_each g.parameters) f),
         )

@@ -3,4 +3,4 @@
 
 mod laws;
 
-pub use laws::{functions_are_covered, programs_are_covered};
+pub use laws::{classes_are_covered, functions_are_covered, programs_are_covered};
