@@ -1,0 +1,9 @@
+pub mod Signing
+pub mod Orders
+pub mod Bodies
+pub mod Listing
+pub mod Keeping
+pub mod Naming
+pub mod Facts
+pub mod Whole
+pub mod Walking
