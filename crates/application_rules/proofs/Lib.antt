@@ -1,0 +1,3 @@
+pub mod FunctionParts
+pub mod CalleeParts
+pub mod CallParts
