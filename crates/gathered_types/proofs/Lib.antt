@@ -1,5 +1,4 @@
 mod Finding
 mod Defining
 mod Walking
-mod Copying
 mod Ending

@@ -1,7 +1,6 @@
 //! The type definitions and type parameters of a program, wherever they stand.
 #![tactic(auto)]
 
-mod copies;
 mod definitions;
 mod found;
 mod program;

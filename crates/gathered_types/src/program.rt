@@ -7,7 +7,6 @@ ghost use Rattle.type_definitions.specs.Tables.{Later};
 ghost use Rattle.met_types.specs.States.{Kept, Stands};
 ghost use Rattle.abstract_tree.specs.TreeView.{plain_program};
 
-use crate::copies::copy_terms;
 use crate::found::Found;
 use crate::walk::find_block;
 use abstract_tree::Program;
@@ -45,7 +44,7 @@ pub fn gathered(alloc: Global, program: &Program<u32>) -> Result<Types, Memory>
         usize::MAX,
         program.fields.as_slice(),
     )?;
-    let terms = copy_terms(alloc, types.terms())?;
+    let terms = types.into_terms();
     let definitions = found.into_definitions(alloc)?;
     match Types::new(alloc, terms, definitions) {
         Ok(made) => Ok(made),

@@ -88,6 +88,20 @@ impl Types {
         &self.terms
     }
 
+    /// The terms alone, without definitions. Takes no memory.
+    pub fn into_terms(self) -> Terms
+        ensures { result ≡ self.forms }
+    {
+        let Types {
+            terms,
+            definitions: _definitions,
+            outcomes: _outcomes,
+            reached: _reached,
+            graph: _graph,
+        } = self;
+        terms
+    }
+
     /// The definitions of the program.
     pub fn definitions(&self) -> &Definitions
         ensures { result.now ≡ self.now.listed }
