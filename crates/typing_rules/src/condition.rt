@@ -1,7 +1,7 @@
 //! The conditions that the rules of typing ask.
 
 /// A condition of a rule of typing. Where a program is refused, it is false at a node.
-#[derive(Clone, Copy)]
+#[derive(Clone, Copy, Debug, PartialEq, Eq)]
 pub enum Condition {
     /// A type is below the one that is wanted, and a literal or a part is of it.
     Mismatch,
