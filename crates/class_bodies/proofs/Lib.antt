@@ -1,0 +1,3 @@
+mod Fielded
+mod Enclosed
+mod Finished

@@ -1,0 +1,6 @@
+//! The bodies of classes.
+#![tactic(auto)]
+
+mod classes;
+
+pub use classes::class_body;

@@ -1,0 +1,5 @@
+pub mod First
+mod Enclosed
+mod Finished
+mod Systems
+mod Promised
