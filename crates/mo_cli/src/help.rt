@@ -10,6 +10,10 @@ pub const HELP: &str =
   mo build SRC OUT
       compiles the actor in the file SRC and writes its module to OUT
       for example: mo build examples/answer.mo answer.wasm
+  mo check SRC
+      says whether the actor in the file SRC is accepted: nothing, or the first fault with
+      its line and column
+      for example: mo check examples/ledger.mo
   mo play [options] SCRIPT MODULE..
       plays the script in the file SCRIPT on the modules in the files MODULE.., and prints
       the transcript
@@ -34,7 +38,8 @@ A script has one event on each line, and begins with install:
 M is the number of a module, K that of a call that the canister made. CALLER, BYTES and
 TEXT are hexadecimal digits, or - for none. Empty lines and lines after # are skipped.
 
-Sources are actors of constant queries for now, as
+What check accepts is Motoko. What build and run take are actors of constant queries for
+now, as
   actor { public query func answer() : async Nat { 42 } }
 and with them run takes no upgrade, and calls without arguments alone (4449444c0000).
 

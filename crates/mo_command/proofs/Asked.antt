@@ -9,17 +9,20 @@ use Rattle.play_script.specs.Words.{lines_of}
 use Rattle.play_script.specs.Scripts.{BeginsWell}
 use Rattle.query_module.specs.ActorRun.{IsGiven}
 use Rattle.mo_words.specs.declared.options.Options.{Options}
-use Rattle.mo_words.specs.Commands.{IsBuild, IsNoForm}
-use Rattle.mo_words.proofs.Unique.{one_build, one_play, one_run, no_build_play, no_build_run, no_play_run}
+use Rattle.mo_words.specs.Commands.{IsBuild, IsCheck, IsNoForm}
+use Rattle.mo_words.proofs.Unique.{one_build, one_check, one_play, one_run, no_build_check, no_build_play, no_build_run, no_check_play, no_check_run, no_play_run}
+use Rattle.mo_front.specs.declared.fault.FrontFault.{FrontFault}
+use Rattle.mo_front.proofs.OneAnswer as front
 use Rattle.mo_play.specs.Modules.{IsBadModule}
 use Rattle.mo_command.specs.declared.status.Status.{Status}
-use Rattle.mo_command.specs.declared.status.Status.TheVariants.{Done, Refused, Usage, ReadFault, WriteFault, NoMemory, BadScript, NotYet, BadModule, NoFile}
+use Rattle.mo_command.specs.declared.status.Status.TheVariants.{Done, Refused, Usage, ReadFault, WriteFault, NoMemory, BadScript, NotYet, BadModule, NoFile, NotAccepted}
 use Rattle.mo_command.specs.declared.status.Input.{Input}
 use Rattle.mo_command.specs.declared.status.Input.TheVariants.{Modules, Sources}
 use Rattle.mo_command.specs.Built.{IsAccepted, Built}
 use Rattle.mo_command.specs.Held.{Outside, HasBytes, Holds}
 use Rattle.mo_command.specs.Replays.{IsGood, IsScript, IsBadScript, IsTaken, IsNotYet}
-use Rattle.mo_command.specs.Ends.{BuildEnds, Stops, IsMissing, ReplayEnds, Ends, AreGood, AsksAll, Asks}
+use Rattle.mo_command.specs.Checked.{IsFaultAt, IsTyped}
+use Rattle.mo_command.specs.Ends.{BuildEnds, CheckEnds, Stops, IsMissing, ReplayEnds, Ends, AreGood, AsksAll, Asks}
 use Rattle.mo_command.proofs.Texts.{spelled_in}
 use Rattle.mo_command.proofs.Ending.{replay_memory}
 
@@ -35,6 +38,7 @@ build_memory src out old new (BadScript fault) e n = absurd e
 build_memory src out old new (NotYet line) e n = absurd e
 build_memory src out old new (BadModule number fault) e n = absurd e
 build_memory src out old new (NoFile place) e n = inl e.1
+build_memory src out old new (NotAccepted fault line column) e n = absurd e
 
 ends_memory : (words : List (List ℕ)) (old new : Outside) (status : Status) → Ends words old new status → (status ≡ Done → ⊥) → Ends words old new NoMemory
 ends_memory words old new status (inl e) n = inl (record { src = e.src; out = e.out; is = e.is; ends = build_memory e.src e.out old new status e.ends n; no_text = e.no_text })
@@ -42,7 +46,8 @@ ends_memory words old new status (inr (inl e)) n =
     inr (inl (record { options = e.options; script = e.script; files = e.files; is = e.is; ends = replay_memory Modules e.options e.script e.files old new status e.ends n; no_name = e.no_name }))
 ends_memory words old new status (inr (inr (inl e))) n =
     inr (inr (inl (record { options = e.options; script = e.script; files = e.files; is = e.is; ends = replay_memory Sources e.options e.script e.files old new status e.ends n; no_name = e.no_name })))
-ends_memory words old new status (inr (inr (inr e))) n = inr (inr (inr (record { is = e.is; same = e.same; status_is = inr refl })))
+ends_memory words old new status (inr (inr (inr (inl e)))) n = inr (inr (inr (inl (record { src = e.src; is = e.is; ends = tt; no_name = e.no_name; no_text = e.no_text }))))
+ends_memory words old new status (inr (inr (inr (inr e)))) n = inr (inr (inr (inr (record { is = e.is; same = e.same; status_is = inr refl }))))
 
 pub ends_told : (words : List (List ℕ)) (old new : Outside) (status told : Status) → Ends words old new status → (told ≡ status) ⊎ ((status ≡ Done → ⊥) × (told ≡ NoMemory)) → Ends words old new told
 ends_told words old new status told e (inl same) = subst (λ s. Ends words old new s) (sym same) e
@@ -54,6 +59,13 @@ one_held held name P Q p q = let e : Some q.0 ≡ Some p.0 = sym q.1 ∙ p.1 in 
 
 pub there_is : (held : NameMap) (name : List ℕ) (P : List ℕ → Type 0) → HasBytes held name P → held name ≡ None → ⊥
 there_is held name P p none = let e : Some p.0 ≡ None = sym p.1 ∙ none in absurd (cc)
+
+-- A source is not both accepted and refused.
+pub not_typed : (held : NameMap) (src : List ℕ) (fault : FrontFault) (line column : ℕ) → HasBytes held src IsTyped → HasBytes held src (IsFaultAt fault line column) → ⊥
+not_typed held src fault line column t f =
+    let k = one_held held src IsTyped (IsFaultAt fault line column) t f in
+    let made = k.1 in
+    k.2.cause (front.either k.0 made.0 fault made.1 k.2.refused)
 
 pub good_at : (P : List ℕ → Type 0) (files : List (List ℕ)) (k : ℕ) (f : List ℕ) → AllByRecursion P files → slice_get files k ≡ Some f → P f
 good_at P [] zero f h e = absurd (cc)
@@ -99,6 +111,37 @@ build_done src out old new held (BadScript fault) told e h r w = absurd e
 build_done src out old new held (NotYet line) told e h r w = absurd e
 build_done src out old new held (BadModule number fault) told e h r w = absurd e
 build_done src out old new held (NoFile place) told e h r w = absurd (there_is held src IsAccepted h (subst (λ n. IfSome n (λ held. held src ≡ None)) told e.2))
+build_done src out old new held (NotAccepted fault line column) told e h r w = absurd e
+
+-- Where the source is typed and no read failed.
+check_done : (src : List ℕ) (old new : Outside) (held : NameMap) (status : Status) → old.names ≡ Some held → CheckEnds src old new status → HasBytes held src IsTyped → (Rose old.reads new.reads → ⊥)
+    → (status ≡ Done) ⊎ (status ≡ NoMemory)
+check_done src old new held Done told e h r = inl refl
+check_done src old new held (Refused source) told e h r = absurd e
+check_done src old new held Usage told e h r = absurd e
+check_done src old new held ReadFault told e h r = absurd (r e)
+check_done src old new held WriteFault told e h r = absurd e
+check_done src old new held NoMemory told e h r = inr refl
+check_done src old new held (BadScript fault) told e h r = absurd e
+check_done src old new held (NotYet line) told e h r = absurd e
+check_done src old new held (BadModule number fault) told e h r = absurd e
+check_done src old new held (NoFile place) told e h r = absurd (there_is held src IsTyped h (subst (λ n. IfSome n (λ held. held src ≡ None)) told e.1))
+check_done src old new held (NotAccepted fault line column) told e h r =
+    absurd (not_typed held src fault line column h (subst (λ n. Holds n src (IsFaultAt fault line column)) told e))
+
+check_missing : (src : List ℕ) (old new : Outside) (held : NameMap) (status : Status) → old.names ≡ Some held → CheckEnds src old new status → held src ≡ None → (Rose old.reads new.reads → ⊥)
+    → (status ≡ NoFile 0) ⊎ (status ≡ NoMemory)
+check_missing src old new held Done told e h r = absurd (there_is held src IsTyped (subst (λ n. Holds n src IsTyped) told e) h)
+check_missing src old new held (Refused source) told e h r = absurd e
+check_missing src old new held Usage told e h r = absurd e
+check_missing src old new held ReadFault told e h r = absurd (r e)
+check_missing src old new held WriteFault told e h r = absurd e
+check_missing src old new held NoMemory told e h r = inr refl
+check_missing src old new held (BadScript fault) told e h r = absurd e
+check_missing src old new held (NotYet line) told e h r = absurd e
+check_missing src old new held (BadModule number fault) told e h r = absurd e
+check_missing src old new held (NoFile place) told e h r = inl (ap NoFile e.0)
+check_missing src old new held (NotAccepted fault line column) told e h r = absurd (there_is held src (IsFaultAt fault line column) (subst (λ n. Holds n src (IsFaultAt fault line column)) told e) h)
 
 -- Where the script and all files are good and no fault rose.
 no_missing : (input : Input) (held : NameMap) (script : List ℕ) (files : List (List ℕ)) (place : ℕ) → AreGood input held script files → IsMissing input held script files place → ⊥
@@ -145,31 +188,41 @@ replay_done input o script files old new held (BadModule number fault) told e g 
     absurd (no_bad_module input held script files number (λ bytes. IsBadModule bytes fault) e.0 (λ bytes b m. b.none m.0 m.1) g
     (subst (λ n. IfSome n (λ held. Stops input held script files number (λ file. HasBytes held file (λ bytes. IsBadModule bytes fault)))) told e.2))
 replay_done input o script files old new held (NoFile place) told e g r p = absurd (no_missing input held script files place g (subst (λ n. IfSome n (λ held. IsMissing input held script files place)) told e.1))
+replay_done input o script files old new held (NotAccepted fault line column) told e g r p = absurd e
 
 no_form : (words : List (List ℕ)) (held : NameMap) → IsNoForm words → AsksAll words held → ⊥
 no_form words held n (inl a) = n.no_build a.0 a.1 a.2
 no_form words held n (inr (inl a)) = n.no_play a.0 a.1 a.2 a.3
-no_form words held n (inr (inr a)) = n.no_run a.0 a.1 a.2 a.3
+no_form words held n (inr (inr (inl a))) = n.no_run a.0 a.1 a.2 a.3
+no_form words held n (inr (inr (inr a))) = n.no_check a.0 a.1
 
 told_done : (words : List (List ℕ)) (old new : Outside) (held : NameMap) (status : Status) → old.names ≡ Some held → Ends words old new status → AsksAll words held → (Rose old.reads new.reads → ⊥)
     → (Rose old.writes new.writes → ⊥) → (Rose old.puts new.puts → ⊥) → (status ≡ Done) ⊎ (status ≡ NoMemory)
 told_done words old new held status told (inl e) (inl a) r w p =
     build_done e.src e.out old new held status told e.ends (subst (λ (s : List ℕ). HasBytes held s IsAccepted) (one_build words a.0 e.src a.1 e.out a.2 e.is) a.3) r w
 told_done words old new held status told (inl e) (inr (inl a)) r w p = absurd (no_build_play words a.2 a.0 e.src e.out a.1 e.is a.3)
-told_done words old new held status told (inl e) (inr (inr a)) r w p = absurd (no_build_run words a.2 a.0 e.src e.out a.1 e.is a.3)
+told_done words old new held status told (inl e) (inr (inr (inl a))) r w p = absurd (no_build_run words a.2 a.0 e.src e.out a.1 e.is a.3)
+told_done words old new held status told (inl e) (inr (inr (inr a))) r w p = absurd (no_build_check words e.src e.out a.0 e.is a.1)
 told_done words old new held status told (inr (inl e)) (inl a) r w p = absurd (no_build_play words e.files e.options a.0 a.1 e.script a.2 e.is)
 told_done words old new held status told (inr (inl e)) (inr (inl a)) r w p =
     let one = one_play words a.2 e.files a.0 e.options a.1 e.script a.3 e.is in
     replay_done Modules e.options e.script e.files old new held status told e.ends
     (subst (λ (s : List ℕ). AreGood Modules held s e.files) one.0 (subst (λ (f : List (List ℕ)). AreGood Modules held a.1 f) one.1 a.4)) r p
-told_done words old new held status told (inr (inl e)) (inr (inr a)) r w p = absurd (no_play_run words e.files a.2 e.options a.0 e.script a.1 e.is a.3)
+told_done words old new held status told (inr (inl e)) (inr (inr (inl a))) r w p = absurd (no_play_run words e.files a.2 e.options a.0 e.script a.1 e.is a.3)
+told_done words old new held status told (inr (inl e)) (inr (inr (inr a))) r w p = absurd (no_check_play words e.files e.options a.0 e.script a.1 e.is)
 told_done words old new held status told (inr (inr (inl e))) (inl a) r w p = absurd (no_build_run words e.files e.options a.0 a.1 e.script a.2 e.is)
 told_done words old new held status told (inr (inr (inl e))) (inr (inl a)) r w p = absurd (no_play_run words a.2 e.files a.0 e.options a.1 e.script a.3 e.is)
-told_done words old new held status told (inr (inr (inl e))) (inr (inr a)) r w p =
+told_done words old new held status told (inr (inr (inl e))) (inr (inr (inr a))) r w p = absurd (no_check_run words e.files e.options a.0 e.script a.1 e.is)
+told_done words old new held status told (inr (inr (inl e))) (inr (inr (inl a))) r w p =
     let one = one_run words a.2 e.files a.0 e.options a.1 e.script a.3 e.is in
     replay_done Sources e.options e.script e.files old new held status told e.ends
     (subst (λ (s : List ℕ). AreGood Sources held s e.files) one.0 (subst (λ (f : List (List ℕ)). AreGood Sources held a.1 f) one.1 a.4)) r p
-told_done words old new held status told (inr (inr (inr e))) a r w p = absurd (no_form words held e.is a)
+told_done words old new held status told (inr (inr (inr (inl e)))) (inl a) r w p = absurd (no_build_check words a.0 a.1 e.src a.2 e.is)
+told_done words old new held status told (inr (inr (inr (inl e)))) (inr (inl a)) r w p = absurd (no_check_play words a.2 a.0 e.src a.1 e.is a.3)
+told_done words old new held status told (inr (inr (inr (inl e)))) (inr (inr (inl a))) r w p = absurd (no_check_run words a.2 a.0 e.src a.1 e.is a.3)
+told_done words old new held status told (inr (inr (inr (inl e)))) (inr (inr (inr a))) r w p =
+    check_done e.src old new held status told e.ends (subst (λ (s : List ℕ). HasBytes held s IsTyped) (one_check words a.0 e.src a.1 e.is) a.2) r
+told_done words old new held status told (inr (inr (inr (inr e)))) a r w p = absurd (no_form words held e.is a)
 
 -- What the source of a build asks for else.
 pub built_accepted : (held : NameMap) (new : Option NameMap) (src out : List ℕ) → Built (Some held) new src out → HasBytes held src IsAccepted
@@ -189,6 +242,7 @@ build_refused src out old new held (BadScript fault) told e h r w = absurd e
 build_refused src out old new held (NotYet line) told e h r w = absurd e
 build_refused src out old new held (BadModule number fault) told e h r w = absurd e
 build_refused src out old new held (NoFile place) told e h r w = absurd (there_is held src (λ text. IsAccepted text → ⊥) h (subst (λ n. IfSome n (λ held. held src ≡ None)) told e.2))
+build_refused src out old new held (NotAccepted fault line column) told e h r w = absurd e
 
 build_missing : (src out : List ℕ) (old new : Outside) (held : NameMap) (status : Status) → old.names ≡ Some held → BuildEnds src out old new status → held src ≡ None
     → (Rose old.reads new.reads → ⊥) → (Rose old.writes new.writes → ⊥) → (status ≡ NoFile 0) ⊎ (status ≡ NoMemory)
@@ -202,6 +256,7 @@ build_missing src out old new held (BadScript fault) told e h r w = absurd e
 build_missing src out old new held (NotYet line) told e h r w = absurd e
 build_missing src out old new held (BadModule number fault) told e h r w = absurd e
 build_missing src out old new held (NoFile place) told e h r w = inl (ap NoFile e.0)
+build_missing src out old new held (NotAccepted fault line column) told e h r w = absurd e
 
 -- A build of this source, where the words are one.
 build_case : (words : List (List ℕ)) (old new : Outside) (src out : List ℕ) (status : Status) → IsBuild words src out → Ends words old new status
@@ -209,13 +264,23 @@ build_case : (words : List (List ℕ)) (old new : Outside) (src out : List ℕ) 
 build_case words old new src out status b (inl e) = (e.out, subst (λ (s : List ℕ). BuildEnds s e.out old new status) (one_build words e.src src e.out out e.is b) e.ends)
 build_case words old new src out status b (inr (inl e)) = absurd (no_build_play words e.files e.options src out e.script b e.is)
 build_case words old new src out status b (inr (inr (inl e))) = absurd (no_build_run words e.files e.options src out e.script b e.is)
-build_case words old new src out status b (inr (inr (inr e))) = absurd (e.is.no_build src out b)
+build_case words old new src out status b (inr (inr (inr (inl e)))) = absurd (no_build_check words src out e.src b e.is)
+build_case words old new src out status b (inr (inr (inr (inr e)))) = absurd (e.is.no_build src out b)
+
+-- A check of this source, where the words are one.
+check_case : (words : List (List ℕ)) (old new : Outside) (src : List ℕ) (status : Status) → IsCheck words src → Ends words old new status → CheckEnds src old new status
+check_case words old new src status b (inl e) = absurd (no_build_check words e.src e.out src e.is b)
+check_case words old new src status b (inr (inl e)) = absurd (no_check_play words e.files e.options src e.script b e.is)
+check_case words old new src status b (inr (inr (inl e))) = absurd (no_check_run words e.files e.options src e.script b e.is)
+check_case words old new src status b (inr (inr (inr (inl e)))) = subst (λ (s : List ℕ). CheckEnds s old new status) (one_check words e.src src e.is b) e.ends
+check_case words old new src status b (inr (inr (inr (inr e)))) = absurd (e.is.no_check src b)
 
 no_form_usage : (words : List (List ℕ)) (old new : Outside) (status : Status) → IsNoForm words → Ends words old new status → (status ≡ Usage) ⊎ (status ≡ NoMemory)
 no_form_usage words old new status n (inl e) = absurd (n.no_build e.src e.out e.is)
 no_form_usage words old new status n (inr (inl e)) = absurd (n.no_play e.options e.script e.files e.is)
 no_form_usage words old new status n (inr (inr (inl e))) = absurd (n.no_run e.options e.script e.files e.is)
-no_form_usage words old new status n (inr (inr (inr e))) = e.status_is
+no_form_usage words old new status n (inr (inr (inr (inl e)))) = absurd (n.no_check e.src e.is)
+no_form_usage words old new status n (inr (inr (inr (inr e)))) = e.status_is
 
 told_asked : (words : List (List ℕ)) (old new : Outside) (held : NameMap) (status asked : Status) → old.names ≡ Some held → Ends words old new status → Asks words held asked → (Rose old.reads new.reads → ⊥)
     → (Rose old.writes new.writes → ⊥) → (Rose old.puts new.puts → ⊥) → (status ≡ asked) ⊎ (status ≡ NoMemory)
@@ -229,8 +294,11 @@ told_asked words old new held status NoMemory told e a r w p = absurd a
 told_asked words old new held status (BadScript fault) told e a r w p = absurd a
 told_asked words old new held status (NotYet line) told e a r w p = absurd a
 told_asked words old new held status (BadModule number fault) told e a r w p = absurd a
-told_asked words old new held status (NoFile place) told e a r w p =
-    let b = build_case words old new a.1 a.2 status a.3 e in subst (λ k. (status ≡ NoFile k) ⊎ (status ≡ NoMemory)) (sym a.0) (build_missing a.1 b.0 old new held status told b.1 a.4 r w)
+told_asked words old new held status (NoFile place) told e (zero_, inl a) r w p =
+    let b = build_case words old new a.0 a.1 status a.2 e in subst (λ k. (status ≡ NoFile k) ⊎ (status ≡ NoMemory)) (sym zero_) (build_missing a.0 b.0 old new held status told b.1 a.3 r w)
+told_asked words old new held status (NoFile place) told e (zero_, inr a) r w p =
+    subst (λ k. (status ≡ NoFile k) ⊎ (status ≡ NoMemory)) (sym zero_) (check_missing a.0 old new held status told (check_case words old new a.0 status a.1 e) a.2 r)
+told_asked words old new held status (NotAccepted fault line column) told e a r w p = absurd a
 
 pub ends_as_asked : (words : List (List ℕ)) (names : Option NameMap) (old new : Outside) (status : Status) → old.names ≡ names → Ends words old new status
     → IfSome names (λ held. (asked : Status) → Asks words held asked → (Rose old.reads new.reads → ⊥) → (Rose old.writes new.writes → ⊥) → (Rose old.puts new.puts → ⊥) → (status ≡ asked) ⊎ (status ≡ NoMemory))

@@ -11,14 +11,16 @@ use Rattle.wasm_tree.specs.declared.module_parts.Module.{Module}
 use Rattle.mo_words.specs.declared.options.Options.{Options}
 use Rattle.mo_play.specs.declared.judging.ModuleFault.{ModuleFault}
 use Rattle.mo_play.specs.Modules.{IsModule, IsBadModule}
+use Rattle.mo_front.specs.declared.fault.FrontFault.{FrontFault}
 use Rattle.mo_command.specs.declared.status.Status.{Status}
-use Rattle.mo_command.specs.declared.status.Status.TheVariants.{Done, Refused, Usage, ReadFault, WriteFault, NoMemory, BadScript, NotYet, BadModule, NoFile}
+use Rattle.mo_command.specs.declared.status.Status.TheVariants.{Done, Refused, Usage, ReadFault, WriteFault, NoMemory, BadScript, NotYet, BadModule, NoFile, NotAccepted}
 use Rattle.mo_command.specs.declared.status.Input.{Input}
 use Rattle.mo_command.specs.declared.status.Input.TheVariants.{Modules, Sources}
 use Rattle.mo_command.specs.Built.{IsAccepted, Accepts, Built}
 use Rattle.mo_command.specs.Held.{Outside, HasBytes, Holds, FirstFile}
 use Rattle.mo_command.specs.Replays.{IsGood, IsBadScript, IsNotYet, Allows, HasScript}
-use Rattle.mo_command.specs.Ends.{BuildEnds, Stops, IsMissing, ReplayEnds}
+use Rattle.mo_command.specs.Checked.{IsFaultAt, IsTyped}
+use Rattle.mo_command.specs.Ends.{BuildEnds, CheckEnds, Stops, IsMissing, ReplayEnds}
 use Rattle.mo_command.proofs.Asked.{built_accepted}
 
 -- Of the files that are read in turn.
@@ -43,6 +45,13 @@ pub data SourceCause (held : NameMap) (src : List ℕ) (status : Status) : Type 
   Lost : held src ≡ None → status ≡ NoFile zero → SourceCause held src status
   Other : HasBytes held src (λ text. IsAccepted text → ⊥) → status ≡ Refused zero → SourceCause held src status
   Accepted : HasBytes held src IsAccepted → status ≡ Done → SourceCause held src status
+
+-- Of a check.
+pub data CheckCause (held : NameMap) (src : List ℕ) (status : Status) : Type 0 where
+  Unchecked : status ≡ NoMemory → CheckCause held src status
+  NoText : held src ≡ None → status ≡ NoFile zero → CheckCause held src status
+  Faulty : (fault : FrontFault) (line column : ℕ) → HasBytes held src (IsFaultAt fault line column) → status ≡ NotAccepted fault line column → CheckCause held src status
+  Typed : HasBytes held src IsTyped → status ≡ Done → CheckCause held src status
 
 each_zipped : {X : Type 0} (R : List ℕ → X → Type 0) (P : List ℕ → Type 0) (files : List (List ℕ)) (xs : List X) → ((file : List ℕ) (x : X) → R file x → P file) → AllZip R files xs → AllByRecursion P files
 each_zipped R P [] xs one h = tt
@@ -80,6 +89,7 @@ module _ (held : NameMap) (o : Options) (script : List ℕ) (files : List (List 
   replay_cause input old new (BadModule number fault) told r p e =
       let s = subst (λ n. IfSome n (λ held. Stops input held script files number (λ file. HasBytes held file (λ bytes. IsBadModule bytes fault)))) told e.2 in Follows s.0 (NoModule number fault e.0 s.1 refl)
   replay_cause input old new (NoFile place) told r p e = missing input place (subst (λ n. IfSome n (λ held. IsMissing input held script files place)) told e.1)
+  replay_cause input old new (NotAccepted fault line column) told r p e = absurd e
 
 pub source_cause : (held : NameMap) (src out : List ℕ) (old new : Outside) (status : Status) → old.names ≡ Some held → (Rose old.reads new.reads → ⊥) → (Rose old.writes new.writes → ⊥) → BuildEnds src out old new status
     → SourceCause held src status
@@ -93,3 +103,17 @@ source_cause held src out old new (BadScript fault) told r w e = absurd e
 source_cause held src out old new (NotYet line) told r w e = absurd e
 source_cause held src out old new (BadModule number fault) told r w e = absurd e
 source_cause held src out old new (NoFile place) told r w e = Lost (subst (λ n. IfSome n (λ held. held src ≡ None)) told e.2) (ap NoFile e.0)
+source_cause held src out old new (NotAccepted fault line column) told r w e = absurd e
+
+pub check_cause : (held : NameMap) (src : List ℕ) (old new : Outside) (status : Status) → old.names ≡ Some held → (Rose old.reads new.reads → ⊥) → CheckEnds src old new status → CheckCause held src status
+check_cause held src old new Done told r e = Typed (subst (λ n. Holds n src IsTyped) told e) refl
+check_cause held src old new (Refused source) told r e = absurd e
+check_cause held src old new Usage told r e = absurd e
+check_cause held src old new ReadFault told r e = absurd (r e)
+check_cause held src old new WriteFault told r e = absurd e
+check_cause held src old new NoMemory told r e = Unchecked refl
+check_cause held src old new (BadScript fault) told r e = absurd e
+check_cause held src old new (NotYet line) told r e = absurd e
+check_cause held src old new (BadModule number fault) told r e = absurd e
+check_cause held src old new (NoFile place) told r e = NoText (subst (λ n. IfSome n (λ held. held src ≡ None)) told e.1) (ap NoFile e.0)
+check_cause held src old new (NotAccepted fault line column) told r e = Faulty fault line column (subst (λ n. Holds n src (IsFaultAt fault line column)) told e) refl

@@ -29,7 +29,7 @@ use Rattle.mo_words.proofs.Unique.{steps_within, pages_within, stack_within}
 use Rattle.mo_play.specs.Modules.{IsBadModule}
 use Rattle.mo_play.specs.Transcripts.{own_principal, IsTranscript, IsPut}
 use Rattle.mo_command.specs.declared.status.Status.{Status}
-use Rattle.mo_command.specs.declared.status.Status.TheVariants.{Done, Refused, Usage, ReadFault, WriteFault, NoMemory, BadScript, NotYet, BadModule, NoFile}
+use Rattle.mo_command.specs.declared.status.Status.TheVariants.{Done, Refused, Usage, ReadFault, WriteFault, NoMemory, BadScript, NotYet, BadModule, NoFile, NotAccepted}
 use Rattle.mo_command.specs.declared.status.Input.{Input}
 use Rattle.mo_command.specs.declared.status.Input.TheVariants.{Modules, Sources}
 use Rattle.mo_command.specs.Built.{IsAccepted, Accepts}
@@ -85,6 +85,7 @@ files_end input o script files events count names seen later first before now wr
     by_status (NotYet line) t = absurd t
     by_status (BadModule number fault) t = (t.0, refl, stops input names script files events number (λ held file. HasBytes held file (λ bytes. IsBadModule bytes fault)) script_is t.1)
     by_status (NoFile place) t = (refl, missing input names script files events t.0 place (let e = t.1 in omega arith) script_is t.2)
+    by_status (NotAccepted fault line column) t = absurd t
 
 -- The programs of sources, each refined by its module.
 record ProgramsOf (held : NameMap) (files : List (List ℕ)) (modules : List Module) : Type 0 where
@@ -162,3 +163,4 @@ replay_memory input o script files old new (BadScript fault) e n = inl e.0
 replay_memory input o script files old new (NotYet line) e n = inl e.1
 replay_memory input o script files old new (BadModule number fault) e n = inl e.1
 replay_memory input o script files old new (NoFile place) e n = inl e.0
+replay_memory input o script files old new (NotAccepted fault line column) e n = absurd e

@@ -16,7 +16,7 @@ use Rattle.mo_play.specs.declared.judging.ModuleFault.TheVariants.{Read}
 use Rattle.mo_play.specs.Modules.{file_limit, IsModule, IsBadModule}
 use Rattle.mo_play.proofs.Bytes.{too_large}
 use Rattle.mo_command.specs.declared.status.Status.{Status}
-use Rattle.mo_command.specs.declared.status.Status.TheVariants.{Done, Refused, Usage, ReadFault, WriteFault, NoMemory, BadScript, NotYet, BadModule, NoFile}
+use Rattle.mo_command.specs.declared.status.Status.TheVariants.{Done, Refused, Usage, ReadFault, WriteFault, NoMemory, BadScript, NotYet, BadModule, NoFile, NotAccepted}
 use Rattle.mo_command.specs.declared.status.Input.{Input}
 use Rattle.mo_command.specs.declared.status.Input.TheVariants.{Modules, Sources}
 use Rattle.mo_command.specs.Built.{IsAccepted, IsModuleOf}
@@ -47,6 +47,7 @@ script_stopped input count names name bytes seen limit before now (BadScript fau
 script_stopped input count names name bytes seen limit before now (NotYet line) c e t = (t.0, holds_such names name bytes seen limit (λ text. IsNotYet count line text) c e t.1)
 script_stopped input count names name bytes seen limit before now (BadModule number fault) c e t = t
 script_stopped input count names name bytes seen limit before now (NoFile place) c e t = absurd t
+script_stopped input count names name bytes seen limit before now (NotAccepted fault line column) c e t = absurd t
 
 pub script_long : (count : ℕ) (names : Option NameMap) (name : List ℕ) → IfSome names (λ held. IsContent 67108864 (held name) TooLong) → Holds names name (IsBadScript count script.ScriptTooLong)
 script_long count names name c = holds_long names name 67108864 (IsBadScript count script.ScriptTooLong) c (λ bytes long. long_script bytes count long)
@@ -64,6 +65,7 @@ file_stopped input number names name bytes seen limit before now (BadScript faul
 file_stopped input number names name bytes seen limit before now (NotYet line) c e t = t
 file_stopped input number names name bytes seen limit before now (BadModule place fault) c e t = (t.0, t.1, holds_such names name bytes seen limit (λ b. IsBadModule b fault) c e t.2)
 file_stopped input number names name bytes seen limit before now (NoFile place) c e t = absurd t
+file_stopped input number names name bytes seen limit before now (NotAccepted fault line column) c e t = absurd t
 
 long_source : (bytes : List ℕ) → 4096 < length bytes → IsAccepted bytes → ⊥
 long_source bytes long a = let short = a.1.short in omega arith
@@ -141,6 +143,7 @@ files_stopped input names files modules i f first before now (BadModule number f
       (first_file input names files modules i f (λ held file. HasBytes held file (λ bytes. IsBadModule bytes fault)) lt is g s.2),
 )
 files_stopped input names files modules i f first before now (NoFile place) lt is le g s = (i, s.0, first_file input names files modules i f (λ held file. held file ≡ None) lt is g s.1)
+files_stopped input names files modules i f first before now (NotAccepted fault line column) lt is le g s = absurd s
 
 -- A file's word among the words.
 pub word_at : {X : Type 0} (g : X → List ℕ) (xs : List X) (i : ℕ) (x : X) (f : List ℕ) → i < length xs → x ≡ get_or xs i x → f ≡ g x → (i < length (map g xs)) × (f ≡ get_or (map g xs) i f)

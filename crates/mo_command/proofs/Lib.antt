@@ -7,3 +7,4 @@ pub mod ModuleFaults
 pub mod Causes
 pub mod OneStatus
 pub mod Answered
+pub mod Checks

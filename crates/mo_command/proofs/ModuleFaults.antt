@@ -38,4 +38,4 @@ one_named bytes number (Read f) (Read g) p q =
     inl (ap (λ (h : ReadFault). BadModule number (Read h)) (sym (is_fault f (module_at bytes) p.0 p.1) ∙ is_fault g (module_at bytes) q.0 q.1))
 one_named bytes number (Read f) (Valid rule) p q = absurd (unread bytes f rule p q)
 one_named bytes number (Valid rule) (Read g) p q = absurd (unread bytes g rule q p)
-one_named bytes number (Valid rule) (Valid second) p q = inr (number, rule, second, refl, refl)
+one_named bytes number (Valid rule) (Valid second) p q = inr (inl (number, rule, second, refl, refl))

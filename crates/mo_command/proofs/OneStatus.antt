@@ -5,22 +5,24 @@ use Rattle.std.specs.List.{AllByRecursion}
 use Rattle.outer.specs.Names.{NameMap}
 use Rattle.play_script.specs.declared.event.Event.{Event}
 use Rattle.script_laws.proofs.OneFault.{one_fault}
-use Rattle.mo_words.proofs.Unique.{one_build, one_play, one_run, no_build_play, no_build_run, no_play_run}
+use Rattle.mo_words.proofs.Unique.{one_build, one_check, one_play, one_run, no_build_check, no_build_play, no_build_run, no_check_play, no_check_run, no_play_run}
+use Rattle.mo_front.proofs.OneAnswer as front
 use Rattle.mo_play.specs.declared.judging.ModuleFault.{ModuleFault}
 use Rattle.mo_play.specs.Modules.{IsBadModule}
 use Rattle.mo_command.specs.declared.status.Status.{Status}
-use Rattle.mo_command.specs.declared.status.Status.TheVariants.{Done, Refused, Usage, NoMemory, BadScript, NotYet, BadModule, NoFile}
+use Rattle.mo_command.specs.declared.status.Status.TheVariants.{Done, Refused, Usage, NoMemory, BadScript, NotYet, BadModule, NoFile, NotAccepted}
 use Rattle.mo_command.specs.declared.status.Input.{Input}
 use Rattle.mo_command.specs.declared.status.Input.TheVariants.{Modules, Sources}
 use Rattle.mo_command.specs.Built.{IsAccepted}
 use Rattle.mo_command.specs.Held.{HasBytes, FirstFile}
 use Rattle.mo_command.specs.Replays.{IsGood, IsScript, IsBadScript, IsNotYet, HasScript}
-use Rattle.mo_command.specs.Ends.{Ends, BuildCase, PlayCase, RunCase}
+use Rattle.mo_command.specs.Checked.{IsFaultAt, IsTyped}
+use Rattle.mo_command.specs.Ends.{Ends, BuildCase, CheckCase, PlayCase, RunCase}
 use Rattle.mo_command.specs.OneStatus.{EndsUnfailed, AreAlike, HasOneStatus}
-use Rattle.mo_command.proofs.Asked.{one_held, there_is, good_at, no_later}
+use Rattle.mo_command.proofs.Asked.{one_held, there_is, good_at, no_later, not_typed}
 use Rattle.mo_command.proofs.Texts.{get_take}
 use Rattle.mo_command.proofs.ModuleFaults.{one_named}
-use Rattle.mo_command.proofs.Causes.{FilesCause, Fine, Gone, NoSource, NoModule, ReplayCause, Unplayed, Absent, Broken, Later, Follows, SourceCause, Unbuilt, Lost, Other, Accepted, replay_cause, source_cause}
+use Rattle.mo_command.proofs.Causes.{FilesCause, Fine, Gone, NoSource, NoModule, ReplayCause, Unplayed, Absent, Broken, Later, Follows, SourceCause, Unbuilt, Lost, Other, Accepted, CheckCause, Unchecked, NoText, Faulty, Typed, replay_cause, source_cause, check_cause}
 
 -- The two are one status up to the rule that is named, or one of them is want of memory.
 abbrev Same : Status → Status → Type 0
@@ -167,6 +169,31 @@ source_one held src s t (Accepted h e) (Lost m d) = absurd (there_is held src Is
 source_one held src s t (Accepted h e) (Other k d) = absurd (no_source Sources held src refl k h)
 source_one held src s t (Accepted h e) (Accepted k d) = same s t Done e d
 
+check_one : (held : NameMap) (src : List ℕ) (s t : Status) → CheckCause held src s → CheckCause held src t → Same s t
+check_one held src s t (Unchecked e) b = inl e
+check_one held src s t a (Unchecked d) = inr (inl d)
+check_one held src s t (NoText n e) (NoText m d) = same s t (NoFile zero) e d
+check_one held src s t (NoText n e) (Faulty g row place h d) = absurd (there_is held src (IsFaultAt g row place) h n)
+check_one held src s t (NoText n e) (Typed h d) = absurd (there_is held src IsTyped h n)
+check_one held src s t (Faulty f line column h e) (NoText m d) = absurd (there_is held src (IsFaultAt f line column) h m)
+check_one held src s t (Faulty f line column h e) (Faulty g row place k d) =
+    let both = one_held held src (IsFaultAt f line column) (IsFaultAt g row place) h k in
+    inr (inr (inr (inr (record {
+      fault = f;
+      line = line;
+      column = column;
+      second = g;
+      row = row;
+      place = place;
+      alike = front.one_answer both.0 f g both.1.refused both.2.refused both.1.cause both.2.cause;
+      status_is = e;
+      other_is = d;
+    }))))
+check_one held src s t (Faulty f line column h e) (Typed k d) = absurd (not_typed held src f line column k h)
+check_one held src s t (Typed h e) (NoText m d) = absurd (there_is held src IsTyped h m)
+check_one held src s t (Typed h e) (Faulty g row place k d) = absurd (not_typed held src g row place h k)
+check_one held src s t (Typed h e) (Typed k d) = same s t Done e d
+
 no_words : (s t : Status) → (s ≡ Usage) ⊎ (s ≡ NoMemory) → (t ≡ Usage) ⊎ (t ≡ NoMemory) → Same s t
 no_words s t (inr e) b = inl e
 no_words s t (inl e) (inr d) = inr (inl d)
@@ -195,23 +222,37 @@ module _ (words : List (List ℕ)) (held : NameMap) (s t : Status) (a : EndsUnfa
       replays Sources e.script d.script e.files d.files (one_run words e.files d.files e.options d.options e.script d.script e.is d.is)
       (replay_cause held e.options e.script e.files Sources a.old a.new s a.told a.reads a.puts e.ends) (replay_cause held d.options d.script d.files Sources b.old b.new t b.told b.reads b.puts d.ends)
 
+  checks : CheckCase words a.old a.new s → CheckCase words b.old b.new t → Same s t
+  checks e d =
+      check_one held d.src s t (subst (λ (src : List ℕ). CheckCause held src s) (one_check words e.src d.src e.is d.is) (check_cause held e.src a.old a.new s a.told a.reads e.ends))
+      (check_cause held d.src b.old b.new t b.told b.reads d.ends)
+
   by_form : Ends words a.old a.new s → Ends words b.old b.new t → Same s t
   by_form (inl e) (inl d) = builds e d
   by_form (inl e) (inr (inl d)) = absurd (no_build_play words d.files d.options e.src e.out d.script e.is d.is)
   by_form (inl e) (inr (inr (inl d))) = absurd (no_build_run words d.files d.options e.src e.out d.script e.is d.is)
-  by_form (inl e) (inr (inr (inr d))) = absurd (d.is.no_build e.src e.out e.is)
+  by_form (inl e) (inr (inr (inr (inl d)))) = absurd (no_build_check words e.src e.out d.src e.is d.is)
+  by_form (inl e) (inr (inr (inr (inr d)))) = absurd (d.is.no_build e.src e.out e.is)
   by_form (inr (inl e)) (inl d) = absurd (no_build_play words e.files e.options d.src d.out e.script d.is e.is)
   by_form (inr (inl e)) (inr (inl d)) = plays e d
   by_form (inr (inl e)) (inr (inr (inl d))) = absurd (no_play_run words e.files d.files e.options d.options e.script d.script e.is d.is)
-  by_form (inr (inl e)) (inr (inr (inr d))) = absurd (d.is.no_play e.options e.script e.files e.is)
+  by_form (inr (inl e)) (inr (inr (inr (inl d)))) = absurd (no_check_play words e.files e.options d.src e.script d.is e.is)
+  by_form (inr (inl e)) (inr (inr (inr (inr d)))) = absurd (d.is.no_play e.options e.script e.files e.is)
   by_form (inr (inr (inl e))) (inl d) = absurd (no_build_run words e.files e.options d.src d.out e.script d.is e.is)
   by_form (inr (inr (inl e))) (inr (inl d)) = absurd (no_play_run words d.files e.files d.options e.options d.script e.script d.is e.is)
   by_form (inr (inr (inl e))) (inr (inr (inl d))) = runs e d
-  by_form (inr (inr (inl e))) (inr (inr (inr d))) = absurd (d.is.no_run e.options e.script e.files e.is)
-  by_form (inr (inr (inr e))) (inl d) = absurd (e.is.no_build d.src d.out d.is)
-  by_form (inr (inr (inr e))) (inr (inl d)) = absurd (e.is.no_play d.options d.script d.files d.is)
-  by_form (inr (inr (inr e))) (inr (inr (inl d))) = absurd (e.is.no_run d.options d.script d.files d.is)
-  by_form (inr (inr (inr e))) (inr (inr (inr d))) = no_words s t e.status_is d.status_is
+  by_form (inr (inr (inl e))) (inr (inr (inr (inl d)))) = absurd (no_check_run words e.files e.options d.src e.script d.is e.is)
+  by_form (inr (inr (inl e))) (inr (inr (inr (inr d)))) = absurd (d.is.no_run e.options e.script e.files e.is)
+  by_form (inr (inr (inr (inl e)))) (inl d) = absurd (no_build_check words d.src d.out e.src d.is e.is)
+  by_form (inr (inr (inr (inl e)))) (inr (inl d)) = absurd (no_check_play words d.files d.options e.src d.script e.is d.is)
+  by_form (inr (inr (inr (inl e)))) (inr (inr (inl d))) = absurd (no_check_run words d.files d.options e.src d.script e.is d.is)
+  by_form (inr (inr (inr (inl e)))) (inr (inr (inr (inl d)))) = checks e d
+  by_form (inr (inr (inr (inl e)))) (inr (inr (inr (inr d)))) = absurd (d.is.no_check e.src e.is)
+  by_form (inr (inr (inr (inr e)))) (inl d) = absurd (e.is.no_build d.src d.out d.is)
+  by_form (inr (inr (inr (inr e)))) (inr (inl d)) = absurd (e.is.no_play d.options d.script d.files d.is)
+  by_form (inr (inr (inr (inr e)))) (inr (inr (inl d))) = absurd (e.is.no_run d.options d.script d.files d.is)
+  by_form (inr (inr (inr (inr e)))) (inr (inr (inr (inl d)))) = absurd (e.is.no_check d.src d.is)
+  by_form (inr (inr (inr (inr e)))) (inr (inr (inr (inr d)))) = no_words s t e.status_is d.status_is
 
 pub one_status : HasOneStatus
 one_status words held s t a b = by_form words held s t a b a.ends b.ends

@@ -1,7 +1,7 @@
 -- The exit status of the program.
 use Rattle.std.specs.Prelude.{ℕ}
 use Rattle.mo_command.specs.declared.status.Status.{Status}
-use Rattle.mo_command.specs.declared.status.Status.TheVariants.{Done, Refused, Usage, ReadFault, WriteFault, NoMemory, BadScript, NotYet, BadModule, NoFile}
+use Rattle.mo_command.specs.declared.status.Status.TheVariants.{Done, Refused, Usage, ReadFault, WriteFault, NoMemory, BadScript, NotYet, BadModule, NoFile, NotAccepted}
 
 abbrev pub code_of : Status → ℕ
 code_of Done = 0
@@ -14,3 +14,4 @@ code_of (BadScript fault) = 6
 code_of (NotYet line) = 6
 code_of (BadModule number fault) = 7
 code_of (NoFile place) = 8
+code_of (NotAccepted fault line column) = 1

@@ -6,13 +6,14 @@ use Rattle.outer.specs.Causes.{Rose}
 use Rattle.outer.specs.Names.{NameMap, KeepsOthers}
 use Rattle.outer.specs.Sinks.{AppendsPrefix}
 use Rattle.mo_words.specs.declared.options.Options.{Options}
-use Rattle.mo_words.specs.Commands.{IsBuild, IsPlay, IsRun, IsNoForm}
+use Rattle.mo_words.specs.Commands.{IsBuild, IsCheck, IsPlay, IsRun, IsNoForm}
 use Rattle.mo_play.specs.Modules.{IsBadModule}
 use Rattle.mo_command.specs.declared.status.Status.{Status}
-use Rattle.mo_command.specs.declared.status.Status.TheVariants.{Done, Refused, Usage, ReadFault, WriteFault, NoMemory, BadScript, NotYet, BadModule, NoFile}
+use Rattle.mo_command.specs.declared.status.Status.TheVariants.{Done, Refused, Usage, ReadFault, WriteFault, NoMemory, BadScript, NotYet, BadModule, NoFile, NotAccepted}
 use Rattle.mo_command.specs.declared.status.Input.{Input}
 use Rattle.mo_command.specs.declared.status.Input.TheVariants.{Modules, Sources}
 use Rattle.mo_command.specs.Built.{IsAccepted, Built}
+use Rattle.mo_command.specs.Checked.{IsFaultAt, IsTyped}
 use Rattle.mo_command.specs.Held.{Outside, HasBytes, Holds, FirstFile}
 use Rattle.mo_command.specs.Replays.{IsGood, IsBadScript, IsNotYet, Allows, HasScript}
 
@@ -30,6 +31,21 @@ BuildEnds src out old new (BadScript fault) = ⊥
 BuildEnds src out old new (NotYet line) = ⊥
 BuildEnds src out old new (BadModule number fault) = ⊥
 BuildEnds src out old new (NoFile place) = (place ≡ 0) × (new.names ≡ old.names) × IfSome old.names (λ held. held src ≡ None)
+BuildEnds src out old new (NotAccepted fault line column) = ⊥
+
+-- What makes a check of SRC end so.
+abbrev pub CheckEnds : List ℕ → Outside → Outside → Status → Type 0
+CheckEnds src old new Done = Holds old.names src IsTyped
+CheckEnds src old new (Refused source) = ⊥
+CheckEnds src old new Usage = ⊥
+CheckEnds src old new ReadFault = Rose old.reads new.reads
+CheckEnds src old new WriteFault = ⊥
+CheckEnds src old new NoMemory = Unit {0}
+CheckEnds src old new (BadScript fault) = ⊥
+CheckEnds src old new (NotYet line) = ⊥
+CheckEnds src old new (BadModule number fault) = ⊥
+CheckEnds src old new (NoFile place) = (place ≡ 0) × IfSome old.names (λ held. held src ≡ None)
+CheckEnds src old new (NotAccepted fault line column) = Holds old.names src (IsFaultAt fault line column)
 
 -- The script was read, and this file is the first that is not good, and is so.
 abbrev pub Stops : Input → NameMap → List ℕ → List (List ℕ) → ℕ → (List ℕ → Type 0) → Type 0
@@ -59,6 +75,7 @@ ReplayEnds input o script files old new (NotYet line) = (input ≡ Sources) × (
 ReplayEnds input o script files old new (BadModule number fault) =
     (input ≡ Modules) × (new.out ≡ old.out) × IfSome old.names (λ held. Stops input held script files number (λ file. HasBytes held file (λ bytes. IsBadModule bytes fault)))
 ReplayEnds input o script files old new (NoFile place) = (new.out ≡ old.out) × IfSome old.names (λ held. IsMissing input held script files place)
+ReplayEnds input o script files old new (NotAccepted fault line column) = ⊥
 
 -- What each form of the command line does.
 pub record BuildCase (words : List (List ℕ)) (old new : Outside) (status : Status) : Type 0 where
@@ -66,6 +83,13 @@ pub record BuildCase (words : List (List ℕ)) (old new : Outside) (status : Sta
   pub out : List ℕ
   pub is : IsBuild words src out
   pub ends : BuildEnds src out old new status
+  pub no_text : new.out ≡ old.out
+
+pub record CheckCase (words : List (List ℕ)) (old new : Outside) (status : Status) : Type 0 where
+  pub src : List ℕ
+  pub is : IsCheck words src
+  pub ends : CheckEnds src old new status
+  pub no_name : new.names ≡ old.names
   pub no_text : new.out ≡ old.out
 
 pub record PlayCase (words : List (List ℕ)) (old new : Outside) (status : Status) : Type 0 where
@@ -92,7 +116,7 @@ pub record NoCase (words : List (List ℕ)) (old new : Outside) (status : Status
 
 -- What makes the words end so. The cases exclude each other: the law is stated in OneStatus.
 abbrev pub Ends : List (List ℕ) → Outside → Outside → Status → Type 0
-Ends words old new status = BuildCase words old new status ⊎ PlayCase words old new status ⊎ RunCase words old new status ⊎ NoCase words old new status
+Ends words old new status = BuildCase words old new status ⊎ PlayCase words old new status ⊎ RunCase words old new status ⊎ CheckCase words old new status ⊎ NoCase words old new status
 
 -- All files are there, and the script and each file are as they have to be.
 pub record AreGood (input : Input) (held : NameMap) (script : List ℕ) (files : List (List ℕ)) : Type 0 where
@@ -105,6 +129,7 @@ AsksAll words held =
     ((src out : List ℕ) × IsBuild words src out × HasBytes held src IsAccepted)
     ⊎ ((o : Options) × (script : List ℕ) × (files : List (List ℕ)) × IsPlay words o script files × AreGood Modules held script files)
     ⊎ ((o : Options) × (script : List ℕ) × (files : List (List ℕ)) × IsRun words o script files × AreGood Sources held script files)
+    ⊎ ((src : List ℕ) × IsCheck words src × HasBytes held src IsTyped)
 
 -- The status that the words and the names call for, where nothing fails and memory is there.
 abbrev pub Asks : List (List ℕ) → NameMap → Status → Type 0
@@ -117,7 +142,9 @@ Asks words held NoMemory = ⊥
 Asks words held (BadScript fault) = ⊥
 Asks words held (NotYet line) = ⊥
 Asks words held (BadModule number fault) = ⊥
-Asks words held (NoFile place) = (place ≡ 0) × (src : List ℕ) × (out : List ℕ) × IsBuild words src out × (held src ≡ None)
+Asks words held (NoFile place) =
+    (place ≡ 0) × (((src : List ℕ) × (out : List ℕ) × IsBuild words src out × (held src ≡ None)) ⊎ ((src : List ℕ) × IsCheck words src × (held src ≡ None)))
+Asks words held (NotAccepted fault line column) = ⊥
 
 -- Where it is told what names hold and no count of faults rose, the status is the one that was asked for, or there was
 -- no memory.

@@ -7,3 +7,4 @@ pub mod Codes
 pub mod Stopped
 pub mod OneStatus
 pub mod Answered
+pub mod Checked

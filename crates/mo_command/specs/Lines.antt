@@ -6,12 +6,14 @@ use Rattle.outer.specs.Sinks.{AppendsPrefix}
 use Rattle.play_script.specs.declared.script.ScriptFault.{ScriptFault}
 use Rattle.play_script.specs.declared.script.ScriptFault.TheVariants as script
 use Rattle.play_script.specs.Numbers.{IsDecimal}
+use Rattle.mo_front.specs.declared.fault.FrontFault.{FrontFault}
+use Rattle.mo_front.specs.FaultNames.{group_of, name_of}
 use Rattle.wasm_read.specs.declared.fault.ReadFault.TheVariants as read
 use Rattle.wasm_tree.specs.declared.rule.Rule.TheVariants as rule
 use Rattle.mo_play.specs.declared.judging.ModuleFault.{ModuleFault}
 use Rattle.mo_play.specs.declared.judging.ModuleFault.TheVariants.{Read, Valid}
 use Rattle.mo_command.specs.declared.status.Status.{Status}
-use Rattle.mo_command.specs.declared.status.Status.TheVariants.{Done, Refused, Usage, ReadFault as read_fault, WriteFault, NoMemory, BadScript, NotYet, BadModule, NoFile}
+use Rattle.mo_command.specs.declared.status.Status.TheVariants.{Done, Refused, Usage, ReadFault as read_fault, WriteFault, NoMemory, BadScript, NotYet, BadModule, NoFile, NotAccepted}
 
 abbrev pub script_name : ScriptFault → List ℕ
 script_name (script.BadLine line) = codes "BadLine"
@@ -54,6 +56,15 @@ module_name (Valid rule.Size) = codes "Valid.Size"
 abbrev pub Numbered : List ℕ → ℕ → List ℕ → List ℕ → Type 0
 Numbered front number back line = (digits : List ℕ) × IsDecimal digits number × (line ≡ front ++ (digits ++ back))
 
+-- The name of a fault by its layer.
+abbrev pub fault_name : FrontFault → List ℕ
+fault_name fault = group_of fault ++ (codes "." ++ name_of fault)
+
+-- The line of a fault of the source 0, on this line and in this column of it.
+abbrev pub IsFaultLine : FrontFault → ℕ → ℕ → List ℕ → Type 0
+IsFaultLine fault row column line =
+    (back : List ℕ) × Numbered (codes ":") column (codes "\n") back × Numbered ((codes "refused 0 " ++ fault_name fault) ++ codes " ") row back line
+
 abbrev pub IsLine : Status → List ℕ → Type 0
 IsLine Done line = ⊥
 IsLine (Refused source) line = Numbered (codes "refused ") source (codes " Build.NotYet 1:1\n") line
@@ -65,6 +76,7 @@ IsLine (BadScript fault) line = Numbered (codes "bad script " ++ script_name fau
 IsLine (NotYet number) line = Numbered (codes "bad script NotYet ") number (codes "\n") line
 IsLine (BadModule number fault) line = Numbered (codes "bad module ") number (codes " " ++ module_name fault ++ codes "\n") line
 IsLine (NoFile place) line = Numbered (codes "no file ") place (codes "\n") line
+IsLine (NotAccepted fault row column) line = IsFaultLine fault row column line
 
 -- The status's line was put; or a part of it, where the count of faults rose; or nothing, for want of memory or because
 -- all is done.

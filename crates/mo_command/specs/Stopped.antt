@@ -16,7 +16,7 @@ use Rattle.mo_words.specs.declared.options.Options.{Options}
 use Rattle.actor_refinement.specs.Limits.{IsWithin}
 use Rattle.mo_play.specs.Modules.{file_limit, IsBadModule}
 use Rattle.mo_command.specs.declared.status.Status.{Status}
-use Rattle.mo_command.specs.declared.status.Status.TheVariants.{Done, Refused, Usage, ReadFault, WriteFault, NoMemory, BadScript, NotYet, BadModule, NoFile}
+use Rattle.mo_command.specs.declared.status.Status.TheVariants.{Done, Refused, Usage, ReadFault, WriteFault, NoMemory, BadScript, NotYet, BadModule, NoFile, NotAccepted}
 use Rattle.mo_command.specs.declared.status.Input.{Input}
 use Rattle.mo_command.specs.declared.status.Input.TheVariants.{Modules, Sources}
 use Rattle.mo_command.specs.Built.{IsAccepted}
@@ -77,6 +77,7 @@ TextStops input count text (BadScript fault) = IsBadScript count fault text
 TextStops input count text (NotYet line) = (input ≡ Sources) × IsNotYet count line text
 TextStops input count text (BadModule number fault) = ⊥
 TextStops input count text (NoFile place) = ⊥
+TextStops input count text (NotAccepted fault line column) = ⊥
 
 -- The script's file holds none.
 abbrev pub ScriptStops : Input → ℕ → Option NameMap → List ℕ → ℕ → ℕ → Status → Type 0
@@ -90,6 +91,7 @@ ScriptStops input count names script before now (BadScript fault) = Holds names 
 ScriptStops input count names script before now (NotYet line) = (input ≡ Sources) × Holds names script (IsNotYet count line)
 ScriptStops input count names script before now (BadModule number fault) = ⊥
 ScriptStops input count names script before now (NoFile place) = (place ≡ 0) × IfSome names (λ held. held script ≡ None)
+ScriptStops input count names script before now (NotAccepted fault line column) = ⊥
 
 -- The most bytes that are read of a file.
 abbrev pub limit_of : Input → ℕ
@@ -108,6 +110,7 @@ BytesStop input number bytes (BadScript fault) = ⊥
 BytesStop input number bytes (NotYet line) = ⊥
 BytesStop input number bytes (BadModule place fault) = (input ≡ Modules) × (place ≡ number) × IsBadModule bytes fault
 BytesStop input number bytes (NoFile place) = ⊥
+BytesStop input number bytes (NotAccepted fault line column) = ⊥
 
 -- The file with this number is not as it has to be.
 abbrev pub FileStops : Input → ℕ → Option NameMap → List ℕ → ℕ → ℕ → Status → Type 0
@@ -121,6 +124,7 @@ FileStops input number names file before now (BadScript fault) = ⊥
 FileStops input number names file before now (NotYet line) = ⊥
 FileStops input number names file before now (BadModule place fault) = (input ≡ Modules) × (place ≡ number) × Holds names file (λ bytes. IsBadModule bytes fault)
 FileStops input number names file before now (NoFile place) = (place ≡ number + 1) × IfSome names (λ held. held file ≡ None)
+FileStops input number names file before now (NotAccepted fault line column) = ⊥
 
 -- Some file is the first that is not as it has to be.
 abbrev pub FilesStop : Input → List (List ℕ) → Option NameMap → ℕ → ℕ → Status → Type 0
@@ -136,3 +140,4 @@ FilesStop input files names before now (BadModule number fault) =
     (input ≡ Modules) × IfSome names (λ held. FirstFile held (IsGood input) files number (λ file. HasBytes held file (λ bytes. IsBadModule bytes fault)))
 FilesStop input files names before now (NoFile place) =
     (number : ℕ) × (place ≡ number + 1) × IfSome names (λ held. FirstFile held (IsGood input) files number (λ file. held file ≡ None))
+FilesStop input files names before now (NotAccepted fault line column) = ⊥

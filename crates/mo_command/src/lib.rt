@@ -1,6 +1,7 @@
 //! The commands of the program, over files and sinks, and the theorem of the whole.
 #![tactic(auto)]
 
+mod check;
 mod compile;
 mod laws;
 mod line;

@@ -1,8 +1,9 @@
 //! The line that each status puts on the error stream.
-ghost use Rattle.std.specs.Prelude.{◌≡◌, ◌≢◌, ◌⊎◌, ℕ, List, IfOk, IfErr, MatchOption};
-ghost use Rattle.mo_command.specs.Lines.{script_name, script_line, module_name, Numbered, IsLine, Tells};
+ghost use Rattle.std.specs.Prelude.{◌≡◌, ◌≢◌, ◌⊎◌, ◌++◌, ℕ, List, IfOk, IfErr, MatchOption, OnOk};
+ghost use Rattle.mo_command.specs.Lines.{fault_name, IsFaultLine, script_name, script_line, module_name, Numbered, IsLine, Tells};
 
 use crate::status::Status;
+use mo_front::FrontFault;
 use mo_num::{Bytes, Memory};
 use mo_play::ModuleFault;
 use outer::{OutsideFault, Sink};
@@ -107,6 +108,25 @@ fn bad_module_line(alloc: Global, number: usize, fault: ModuleFault) -> Result<B
     numbered(alloc, b"bad module ", number as u64, back.as_slice())
 }
 
+// Puts the name of a fault by its layer.
+fn put_fault(fault: FrontFault, line: &mut Bytes) -> Result<(), Memory>
+    ensures { OnOk result (line.new ≡ line.old ++ fault_name fault) }
+{
+    line.extend(fault.group())?;
+    line.extend(b".")?;
+    line.extend(fault.name())
+}
+
+fn fault_line(alloc: Global, fault: FrontFault, row: u32, column: u32) -> Result<Bytes, Memory>
+    ensures { IfOk result (IsFaultLine fault row column) }
+{
+    let mut front = Bytes::from_slice(alloc, b"refused 0 ")?;
+    put_fault(fault, &mut front)?;
+    front.extend(b" ")?;
+    let back = numbered(alloc, b":", column as u64, b"\n")?;
+    numbered(alloc, front.as_slice(), row as u64, back.as_slice())
+}
+
 // The status's line, which only Done lacks.
 fn line_of(alloc: Global, status: Status) -> Result<Option<Bytes>, Memory>
     ensures line { IfOk result (λ line. MatchOption line (status ≡ Status.Done) (IsLine status)) }
@@ -128,6 +148,11 @@ fn line_of(alloc: Global, status: Status) -> Result<Option<Bytes>, Memory>
         Status::NotYet { line } => numbered(alloc, b"bad script NotYet ", line as u64, b"\n")?,
         Status::BadModule { number, fault } => bad_module_line(alloc, number, fault)?,
         Status::NoFile { place } => numbered(alloc, b"no file ", place as u64, b"\n")?,
+        Status::NotAccepted {
+            fault,
+            line,
+            column,
+        } => fault_line(alloc, fault, line, column)?,
     };
     Ok(Some(line))
 }

@@ -1,6 +1,7 @@
 //! How a run ends.
 ghost use Rattle.std.specs.Prelude.{◌≡◌};
 
+use mo_front::FrontFault;
 use mo_play::ModuleFault;
 use play_script::ScriptFault;
 
@@ -19,7 +20,9 @@ pub enum Status {
     /// The words' work is done.
     Done,
     /// The source with this number is not accepted.
-    Refused { source: usize },
+    Refused {
+        source: usize,
+    },
     /// The words are none of the forms.
     Usage,
     /// A read failed.
@@ -31,11 +34,24 @@ pub enum Status {
     /// The script's file holds no script; the fault is not want of memory.
     BadScript(ScriptFault),
     /// The script's line asks `run` for what it does not do yet.
-    NotYet { line: u32 },
+    NotYet {
+        line: u32,
+    },
     /// The file of the module with this number holds no valid module.
-    BadModule { number: usize, fault: ModuleFault },
+    BadModule {
+        number: usize,
+        fault: ModuleFault,
+    },
     /// A file that a word names for reading is not there: the one with this place in the order of reading.
-    NoFile { place: usize },
+    NoFile {
+        place: usize,
+    },
+    /// The source that is checked is refused by this fault, which is on this line and in this column, both from 1.
+    NotAccepted {
+        fault: FrontFault,
+        line: u32,
+        column: u32,
+    },
 }
 
 impl Status {
@@ -56,6 +72,7 @@ impl Status {
             Status::NotYet { .. } => 6,
             Status::BadModule { .. } => 7,
             Status::NoFile { .. } => 8,
+            Status::NotAccepted { .. } => 1,
         }
     }
 }

@@ -59,6 +59,7 @@ untrue h p = let e : false ≡ true = h p in absurd (cc)
 pub no_verb : (words rest : List (List ℕ)) (name : List ℕ) → words ≡ name ∷ rest → ((v : Verb) → name ≡ verb_word v → ⊥) → IsNoForm words
 no_verb words rest name e none = record {
   no_build = λ source out b. none verb.Build (front (verb_word verb.Build) (source ∷ out ∷ []) b.words_are);
+  no_check = λ source b. none verb.Check (front (verb_word verb.Check) (source ∷ []) b.words_are);
   no_play = λ o script files p. none verb.Play (front (verb_word verb.Play) p.others p.words_are);
   no_run = λ o script files r. none verb.Run (front (verb_word verb.Run) r.others r.words_are);
 }
@@ -73,6 +74,7 @@ no_play words rest name e f none =
     let whole : words ≡ verb_word verb.Play ∷ rest = subst (λ (n : List ℕ). words ≡ n ∷ rest) f e in
     record {
       no_build = λ source out b. omega (arith, ap letter (sym whole ∙ b.words_are));
+      no_check = λ source b. omega (arith, ap letter (sym whole ∙ b.words_are));
       no_play = λ o script files p. none o script files (subst (λ (ws : List (List ℕ)). IsReplay ws o script files) (replay_none words rest (verb_word verb.Play) p.others whole p.words_are) p.replay);
       no_run = λ o script files r. omega (arith, ap letter (sym whole ∙ r.words_are));
     }
@@ -83,6 +85,7 @@ no_run words rest name e f none =
     let whole : words ≡ verb_word verb.Run ∷ rest = subst (λ (n : List ℕ). words ≡ n ∷ rest) f e in
     record {
       no_build = λ source out b. omega (arith, ap letter (sym whole ∙ b.words_are));
+      no_check = λ source b. omega (arith, ap letter (sym whole ∙ b.words_are));
       no_play = λ o script files r. omega (arith, ap letter (sym whole ∙ r.words_are));
       no_run = λ o script files p. none o script files (subst (λ (ws : List (List ℕ)). IsReplay ws o script files) (replay_none words rest (verb_word verb.Run) p.others whole p.words_are) p.replay);
     }

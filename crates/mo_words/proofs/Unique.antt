@@ -5,7 +5,7 @@ use Rattle.mo_words.specs.declared.options.Setting.{Setting}
 use Rattle.mo_words.specs.declared.options.Setting.TheVariants.{Steps, Pages, Stack}
 use Rattle.mo_words.specs.declared.command.Verb.TheVariants as verb
 use Rattle.mo_words.specs.Options.{option_word, AreSettings, steps_of, pages_of, stack_of}
-use Rattle.mo_words.specs.Commands.{verb_word, IsFirstFile, IsReplay, IsBuild, IsPlay, IsRun}
+use Rattle.mo_words.specs.Commands.{verb_word, IsFirstFile, IsReplay, IsBuild, IsCheck, IsPlay, IsRun}
 use Rattle.mo_words.proofs.Given.{no_file}
 
 same_files : (ss ts : List Setting) (front back f g : List (List ℕ)) (s t : List ℕ) → AreSettings ss front → AreSettings ts back → IsFirstFile s → IsFirstFile t → front ++ s ∷ f ≡ back ++ t ∷ g → (s ≡ t) × (f ≡ g)
@@ -40,10 +40,22 @@ one_run words f g o p s t a b =
 pub one_build : (words : List (List ℕ)) (s t x y : List ℕ) → IsBuild words s x → IsBuild words t y → s ≡ t
 one_build words s t x y a b = let e : verb_word verb.Build ∷ s ∷ x ∷ [] ≡ verb_word verb.Build ∷ t ∷ y ∷ [] = sym a.words_are ∙ b.words_are in cc
 
+pub one_check : (words : List (List ℕ)) (s t : List ℕ) → IsCheck words s → IsCheck words t → s ≡ t
+one_check words s t a b = let e : verb_word verb.Check ∷ s ∷ [] ≡ verb_word verb.Check ∷ t ∷ [] = sym a.words_are ∙ b.words_are in cc
+
 -- The forms exclude each other by their first word.
 abbrev letter : List (List ℕ) → ℕ
 letter [] = 0
 letter (word ∷ words) = get_or word 0 0
+
+pub no_build_check : (words : List (List ℕ)) (x y s : List ℕ) → IsBuild words x y → IsCheck words s → ⊥
+no_build_check words x y s a b = omega (arith, ap letter (sym a.words_are ∙ b.words_are))
+
+pub no_check_play : (words f : List (List ℕ)) (o : Options) (x s : List ℕ) → IsCheck words x → IsPlay words o s f → ⊥
+no_check_play words f o x s a b = omega (arith, ap letter (sym a.words_are ∙ b.words_are))
+
+pub no_check_run : (words f : List (List ℕ)) (o : Options) (x s : List ℕ) → IsCheck words x → IsRun words o s f → ⊥
+no_check_run words f o x s a b = omega (arith, ap letter (sym a.words_are ∙ b.words_are))
 
 pub no_build_play : (words f : List (List ℕ)) (o : Options) (x y s : List ℕ) → IsBuild words x y → IsPlay words o s f → ⊥
 no_build_play words f o x y s a b = omega (arith, ap letter (sym a.words_are ∙ b.words_are))

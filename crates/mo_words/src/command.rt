@@ -3,7 +3,7 @@ ghost use Rattle.std.specs.Prelude.{◌≡◌, ◌≢◌, ◌↔◌, ◌∷◌, 
 ghost use Rattle.mo_words.specs.declared.options.Options.{Options};
 ghost use Rattle.mo_words.specs.declared.command.Verb.{Verb};
 ghost use Rattle.mo_words.specs.Commands.{verb_word};
-ghost use Rattle.mo_words.specs.Commands.{IsOptionWord, IsFirstFile, AreFiles, IsBuild, IsReplay, IsNoForm, Spells};
+ghost use Rattle.mo_words.specs.Commands.{IsOptionWord, IsFirstFile, AreFiles, IsBuild, IsCheck, IsReplay, IsNoForm, Spells};
 
 use crate::options::{Options, read_options};
 use crate::split::{split_one, split_two};
@@ -26,6 +26,8 @@ pub struct Replay<'a> {
 pub enum Command<'a> {
     /// `build SRC OUT`
     Build { source: &'a str, out: &'a str },
+    /// `check SRC`
+    Check { source: &'a str },
     /// `play [options] SCRIPT MODULE..`
     Play(Replay<'a>),
     /// `run [options] SCRIPT SRC..`
@@ -36,6 +38,7 @@ pub enum Command<'a> {
 #[derive(Clone, Copy, Debug, PartialEq, Eq)]
 pub(crate) enum Verb {
     Build,
+    Check,
     Play,
     Run,
 }
@@ -46,6 +49,8 @@ fn verb_of(name: &str) -> Option<Verb>
 {
     if name == "build" {
         Some(Verb::Build)
+    } else if name == "check" {
+        Some(Verb::Check)
     } else if name == "play" {
         Some(Verb::Play)
     } else if name == "run" {
@@ -102,6 +107,21 @@ fn read_build(words: &[String]) -> Option<(&str, &str)>
     }
 }
 
+// The word behind `check`.
+fn read_check(words: &[String]) -> Option<&str>
+    ensures found { IfSome result (λ source. IsCheck (codes "check" ∷ map string_bytes words.now) source.now) }
+    ensures none { IfNone result ((source : List ℕ) → IsCheck (codes "check" ∷ map string_bytes words.now) source → ⊥) }
+{
+    let Some((source, rest)) = split_one(words) else {
+        return None;
+    };
+    if rest.is_empty() && is_first_file(source) {
+        Some(source)
+    } else {
+        None
+    }
+}
+
 // The words behind `play` or `run`.
 fn read_replay(words: &[String]) -> Option<Replay<'_>>
     ensures found { IfSome result (λ r. IsReplay (map string_bytes words.now) r.options r.script.now (map string_bytes r.files.now)) }
@@ -137,6 +157,10 @@ pub fn read_words(words: &[String]) -> Option<Command<'_>>
     match verb_of(name) {
         Some(Verb::Build) => match read_build(rest) {
             Some((source, out)) => Some(Command::Build { source, out }),
+            None => None,
+        },
+        Some(Verb::Check) => match read_check(rest) {
+            Some(source) => Some(Command::Check { source }),
             None => None,
         },
         Some(Verb::Play) => match read_replay(rest) {

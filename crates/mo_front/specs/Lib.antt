@@ -1,0 +1,4 @@
+pub mod Places
+pub mod FaultNames
+pub mod Fronts
+pub mod Layers

@@ -1,0 +1,12 @@
+//! From the bytes of a source to its typed program, or to the first fault of the first layer that refuses it, with its place.
+#![tactic(auto)]
+
+mod fault;
+mod laws;
+mod lines;
+mod reading;
+
+pub use fault::FrontFault;
+pub use laws::a_source_has_one_answer;
+pub use lines::line_and_column;
+pub use reading::front;
