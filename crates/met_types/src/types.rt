@@ -1,5 +1,5 @@
 //! The types of a program: the terms that are made, and the graph of those that are met.
-ghost use Rattle.std.specs.Prelude.{◌≡◌, ◌∷◌, ◌++◌, List, [], length, slice_get, IfErr, IfNone, IfOk, IfSome, OnOk};
+ghost use Rattle.std.specs.Prelude.{◌≡◌, ◌∷◌, ◌++◌, List, [], Some, length, slice_get, IfErr, IfNone, IfOk, IfSome, OnOk};
 ghost use Rattle.mo_types.specs.Graph.{head_at};
 ghost use Rattle.typing_rules.specs.Terms.{Term};
 ghost use Rattle.type_definitions.specs.Definitions.{Stand};
@@ -206,6 +206,28 @@ impl Types {
             Some(at) => self.graph.get(at),
             None => None,
         }
+    }
+
+    /// The number that a term has in the graph, where it is one of its types.
+    pub fn number(&self, id: TermId) -> Option<TypeId>
+        ensures there { IfSome result (λ at. slice_get self.now.reached at.index ≡ Some id) }
+        ensures missing { IfNone result (IsReached self.now id → ⊥) }
+    {
+        self.reached.find(id)
+    }
+
+    /// The graph alone. Takes no memory.
+    pub fn into_graph(self) -> TypeGraph
+        ensures { result ≡ self.slots }
+    {
+        let Types {
+            terms: _terms,
+            definitions: _definitions,
+            outcomes: _outcomes,
+            reached: _reached,
+            graph,
+        } = self;
+        graph
     }
 
     /// The term of a type of the graph.

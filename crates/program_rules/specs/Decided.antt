@@ -1,12 +1,13 @@
 -- What the judging of a program comes to.
 use Rattle.std.specs.Prelude.{◌≡◌, ℕ, true, false, List, [], None, Result, Ok, Err, nat_le}
 use Rattle.typing_rules.specs.declared.condition.Condition.TheVariants as condition
-use Rattle.typing_rules.specs.AbstractSyntax.{Program}
+use Rattle.typing_rules.specs.AbstractSyntax.{Declarations, Program}
 use Rattle.typing_rules.specs.Answers.{answer, fault, Comes}
 use Rattle.typing_rules.specs.Gathered.{gathered}
+use Rattle.typing_rules.specs.Judgements.{Judgement, Meets}
 use Rattle.typing_rules.specs.Nodes.{nodes}
 use Rattle.typing_rules.specs.Programs.{Checks, JudgeFieldsOf, made_program}
-use Rattle.typing_rules.specs.Terms.{Term}
+use Rattle.typing_rules.specs.Terms.{Term, unit}
 use Rattle.typing_rules.specs.TypedTrees.{Note}
 use Rattle.met_types.specs.States.{State}
 use Rattle.type_judgements.specs.declared.refusal.Refusal.{Refusal}
@@ -18,7 +19,8 @@ use Rattle.value_scopes.specs.declared.note.Note as value_note
 use Rattle.value_scopes.specs.declared.place.Around.TheVariants as around
 use Rattle.value_scopes.specs.Values.{noted}
 use Rattle.judging.specs.declared.site.Site.{Site}
-use Rattle.list_judging.specs.Lists.{declarations_in}
+use Rattle.judging.specs.Views.{View}
+use Rattle.list_judging.specs.Lists.{declarations_in, judge_list}
 use Rattle.first_scopes.specs.Beginning.{first_place}
 use Rattle.program_rules.specs.declared.programs.TypedFields.{TypedFields}
 use Rattle.program_rules.specs.declared.programs.TypedProgram.{TypedProgram}
@@ -28,6 +30,10 @@ abbrev pub first_site : Site
 first_site = record { at = 0; place = first_place; around = around.Other; wanted = None }
 
 -- ---- the fields
+
+-- their list, before which () is met
+abbrev pub listed_fields : List (Declaration ℕ) → View → Judgement (Term × Declarations Note)
+listed_fields xs v = Meets unit (judge_list first_site false xs v)
 
 -- What the judging of the fields comes to, where no type was met before. What is given is seen in this state of the types.
 module _ (x : value.Program ℕ) (s : State) where

@@ -6,17 +6,19 @@ ghost use Rattle.type_definitions.specs.Definitions.{rules_in};
 ghost use Rattle.type_definitions.specs.Tables.{Later};
 ghost use Rattle.met_types.specs.States.{Kept, Stands};
 ghost use Rattle.abstract_tree.specs.TreeView.{plain_program};
-ghost use Rattle.judging.specs.Parts.{Known};
-ghost use Rattle.program_rules.specs.Decided.{FieldsCome, first_site};
+ghost use Rattle.judging.specs.Answers.{Answers};
+ghost use Rattle.judging.specs.Parts.{Known, Sound};
+ghost use Rattle.list_judging.specs.Lists.{list_in, list_reached};
+ghost use Rattle.program_rules.specs.Decided.{FieldsCome, first_site, listed_fields};
 
 use abstract_tree::{Declaration, Program};
 use first_scopes::{first_place, first_scopes};
-use judging::{Checker, Site};
+use judging::{Checker, Site, meets_unit};
 use list_judging::MadeList;
 use mo_syntax::Items;
 use tree_judging::judge_list;
 use type_judgements::Refusal;
-use value_scopes::{Around, Note};
+use value_scopes::{Around, Note, Scopes};
 
 /// Where the fields of a program stand. What is false of the program as a whole is so at its first token.
 fn first_site() -> Site
@@ -28,6 +30,19 @@ fn first_site() -> Site
         around: Around::Other,
         wanted: None,
     }
+}
+
+/// The list of the fields. `()` is met first.
+fn judge_listed(
+    checker: &mut Checker,
+    scopes: &mut Scopes,
+    fields: &[Declaration<u32>],
+) -> Result<MadeList, Refusal>
+    requires { Sound checker.old scopes.old }
+    ensures { Answers list_in list_reached (listed_fields fields.now) scopes.old checker.old scopes.new checker.new result }
+{
+    meets_unit(checker)?;
+    judge_list(checker, scopes, first_site(), false, fields)
 }
 
 /// The fields of a program, by what is known of its types.
@@ -42,13 +57,7 @@ pub(crate) fn judge_fields(
     ensures kept { OnOk result (Kept checker.new.types) }
 {
     let mut scopes = first_scopes(checker, program)?;
-    let judged = judge_list(
-        checker,
-        &mut scopes,
-        first_site(),
-        false,
-        program.fields.as_slice(),
-    );
+    let judged = judge_listed(checker, &mut scopes, program.fields.as_slice());
     // In the table no term is twice, and each is made of terms before it.
     let _terms = checker.types.terms().len();
     let MadeList {

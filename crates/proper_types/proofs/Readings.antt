@@ -1,9 +1,10 @@
 -- Types that are read, type parameters and definitions.
 use Rattle.std.proofs.Common.{◌≡◌, ℕ, Bool, true, false, List, [], ◌∷◌, ◌++◌, Ok, Err, Option, Some, None, is_some, refl, sym, ap, ◌∙◌, subst, map}
 use Rattle.std.proofs.Math.Path.{fun_ext}
-use Rattle.std.specs.Prelude.{Result, IfOk}
+use Rattle.std.specs.Prelude.{Result, IfErr, IfOk, OnOk}
 use Rattle.mo_types.specs.Sub.{Each}
 use Rattle.type_terms.specs.declared.form.Form.{Form}
+use Rattle.type_terms.specs.declared.form.Form.TheVariants as form
 use Rattle.type_terms.specs.declared.form.TermId.{TermId}
 use Rattle.typing_rules.specs.declared.condition.Condition.{Condition}
 use Rattle.typing_rules.specs.declared.condition.Condition.TheVariants as condition
@@ -17,7 +18,7 @@ use Rattle.typing_rules.specs.TypeScopes.{TypeScope}
 use Rattle.typing_rules.specs.TypeScopes as rules
 use Rattle.typing_rules.specs.Types.{Reads, ReadsEach, ReadsOr, ends}
 use Rattle.type_definitions.specs.Meanings.{term}
-use Rattle.type_definitions.specs.Tables.{Later, Makes, Within}
+use Rattle.type_definitions.specs.Tables.{IsTermOf, Later, Makes, Within}
 use Rattle.type_definitions.specs.Definitions.{Listed, rules_in}
 use Rattle.type_definitions.specs.declared.chains.Outcome.{Outcome}
 use Rattle.type_definitions.proofs.Meanings.{later_on}
@@ -37,7 +38,7 @@ use Rattle.type_judgements.specs.Judged.{Gave, Names, Judged}
 use Rattle.type_judgements.specs.LeftBehind.{LeavesOn}
 use Rattle.type_judgements.proofs.Turns.{gave_then, names_first}
 use Rattle.proper_types.specs.Passing.{Ready, Passed, Refused, Judges}
-use Rattle.proper_types.specs.Rules.{Rule, InTurn, as_term, as_terms, bound_ends, defines, done, generics, given_or, proper, reads, reads_each}
+use Rattle.proper_types.specs.Rules.{Rule, InTurn, as_term, as_terms, bound_ends, defines, done, generics, given_or, is_met, proper, reads, reads_each, stands}
 use Rattle.proper_types.proofs.Judging.{failed, first_judges, gave_as, given, goes_itself, goes_on, judges_as, left_on, left_there, names_as, ready_on, then_judges}
 use Rattle.proper_types.proofs.Turns.{part_alike, part_assoc, turns}
 
@@ -182,9 +183,9 @@ module _ (s : TypeScope) where
 
 -- ---- type parameters
 
-tests_then : (c : Condition) (at : ℕ) (b : Bool) (k : Judgement (Unit {0})) → Part (Tests c at b Fine) (λ u. k) ≡ Tests c at b k
-tests_then c at true k = refl
-tests_then c at false k = refl
+tests_then : (c : Condition) (at : ℕ) (b : Bool) (j k : Judgement (Unit {0})) → Part (Tests c at b j) (λ u. k) ≡ Tests c at b (Part j (λ u. k))
+tests_then c at true j k = refl
+tests_then c at false j k = refl
 
 pub ends_there : (at : ℕ) (old new : State) (c : Sharing) (is : Bool) → Same old new → Ready old c → Ends old.listed at new.forms is → is ≡ true → Passed (bound_ends at old.listed) old new c (done tt)
 ends_there at old new c is same ready h e = given (bound_ends at old.listed) old new c (done tt) same (ready_on old new c ready same.kept same.goes)
@@ -193,6 +194,36 @@ ends_there at old new c is same ready h e = given (bound_ends at old.listed) old
 pub ends_nowhere : (at : ℕ) (old new : State) (is : Bool) → Same old new → Ends old.listed at new.forms is → is ≡ false → Refused (bound_ends at old.listed) old new (fault condition.BadDefinition at)
 ends_nowhere at old new is same h e = failed (bound_ends at old.listed) old new condition.BadDefinition at (left_there old new same.goes)
     (λ later l. ap (λ (b : Bool). Tests condition.BadDefinition at b Fine) (sym e ∙ h later l))
+
+-- it is met
+module _ (at : ℕ) (old next new : State) (a : Sharing) (id : TermId) (ready : Ready old a) (same : Same old next) (m : Makes old.forms (IsTermOf (form.Parameter at) id) id next.forms) where
+  pub parameter_met : (r : Result (Unit {0}) Refusal) → OnOk r (Kept new) → OnOk r (Goes next new) → IfErr r (LeavesOn next new) → Judged (λ later. Meets (term later id) Fine) next new done r → Judges (is_met at) old new a done r
+  parameter_met (Ok u) k g left h = record {
+    ready = ready_on next new a (ready_on old next a ready same.kept same.goes) k g;
+    goes = goes_on old next new same.goes g;
+    gave = gave_before (is_met at old.listed) old next new same (done u)
+        (gave_as (λ later. Meets (term later id) Fine) (is_met at old.listed) next new (λ later l. ap (λ (t : Term). Meets t Fine) (m.is later (later_on next.forms new.forms later g.forms l))) (done u) h);
+  }
+  parameter_met (Err (refusal.False place c)) k g left h = record {
+    left = left_on old next new same.goes left;
+    names = names_before (is_met at old.listed) old next new same (fault c place)
+        (names_as (λ later. Meets (term later id) Fine) (is_met at old.listed) next new (λ later l. ap (λ (t : Term). Meets t Fine) (m.is later (later_on next.forms new.forms later left.forms l))) (fault c place) h);
+  }
+  parameter_met (Err refusal.Memory) k g left h = tt
+
+module _ (at : ℕ) where
+  in_two_steps : (l : Listed) (later : List Form) → Part (bound_ends at l later) (λ u. is_met at l later) ≡ stands at l later
+  in_two_steps l later = tests_then condition.BadDefinition at (ends (rules_in later l) at) Fine (is_met at l later)
+
+  pub ends_and_met : (old mid new : State) (a c : Sharing) (r : Result (Unit {0}) Refusal) → Passed (bound_ends at old.listed) old mid a (done tt) → Judges (is_met at) mid new c done r → Judges (stands at) old new c done r
+  ends_and_met old mid new a c r p w =
+      judges_as (λ l later. Part (bound_ends at l later) (λ u. is_met at l later)) (stands at) old new c done r in_two_steps
+      (then_judges (bound_ends at) (λ l later u. is_met at l later) old mid new a c (done tt) done r p w)
+
+  pub ends_not : (old new : State) (a : Sharing) (e : Refusal) → Judges (bound_ends at) old new a done (Err e) → Judges (stands at) old new a done (Err e)
+  ends_not old new a e w =
+      judges_as (λ l later. Part (bound_ends at l later) (λ u. is_met at l later)) (stands at) old new a done (Err e) in_two_steps
+      (first_judges (bound_ends at) (λ l later u. is_met at l later) old new a a done done e w)
 
 module _ (s : TypeScope) where
   abbrev pub one_generic : Listed → List Form → value_parameter.TypeParameter → Judgement (Unit {0})
@@ -205,30 +236,30 @@ module _ (s : TypeScope) where
   generics_are l later [] = refl
   generics_are l later (g ∷ gs) =
       part_alike (one_generic l later g) (InTurn (one_generic l later) gs) (generics s (map parameter gs) l later) (generics_are l later gs)
-      ∙ (part_assoc (given_first l later g) (λ u. Tests condition.BadDefinition g.name.at (ends (rules_in later l) g.name.at) Fine) (λ u. generics s (map parameter gs) l later)
-      ∙ behind_alike (given_first l later g) (λ u. Part (Tests condition.BadDefinition g.name.at (ends (rules_in later l) g.name.at) Fine) (λ v. generics s (map parameter gs) l later)) (λ u. Tests condition.BadDefinition g.name.at (ends (rules_in later l) g.name.at) (generics s (map parameter gs) l later))
-      (λ u. tests_then condition.BadDefinition g.name.at (ends (rules_in later l) g.name.at) (generics s (map parameter gs) l later)))
+      ∙ (part_assoc (given_first l later g) (λ u. stands g.name.at l later) (λ u. generics s (map parameter gs) l later)
+      ∙ behind_alike (given_first l later g) (λ u. Part (stands g.name.at l later) (λ v. generics s (map parameter gs) l later)) (λ u. Tests condition.BadDefinition g.name.at (ends (rules_in later l) g.name.at) (Part (is_met g.name.at l later) (λ v. generics s (map parameter gs) l later)))
+      (λ u. tests_then condition.BadDefinition g.name.at (ends (rules_in later l) g.name.at) (is_met g.name.at l later) (generics s (map parameter gs) l later)))
 
   module _ (g : value_parameter.TypeParameter) where
-    unbounded : (l : Listed) (later : List Form) → g.bound ≡ None → bound_ends g.name.at l later ≡ one_generic l later g
-    unbounded l later h = ap (λ (o : Option value.TypeNode). Part (ReadsOr (rules_in later l) s (annotation o) Any) (λ u. bound_ends g.name.at l later)) (sym h)
+    unbounded : (l : Listed) (later : List Form) → g.bound ≡ None → stands g.name.at l later ≡ one_generic l later g
+    unbounded l later h = ap (λ (o : Option value.TypeNode). Part (ReadsOr (rules_in later l) s (annotation o) Any) (λ u. stands g.name.at l later)) (sym h)
 
-    bounded : (b : value.TypeNode) (l : Listed) (later : List Form) → g.bound ≡ Some b → Part (reads s (type_node b) l later) (λ u. bound_ends g.name.at l later) ≡ one_generic l later g
-    bounded b l later h = ap (λ (o : Option value.TypeNode). Part (ReadsOr (rules_in later l) s (annotation o) Any) (λ u. bound_ends g.name.at l later)) (sym h)
+    bounded : (b : value.TypeNode) (l : Listed) (later : List Form) → g.bound ≡ Some b → Part (reads s (type_node b) l later) (λ u. stands g.name.at l later) ≡ one_generic l later g
+    bounded b l later h = ap (λ (o : Option value.TypeNode). Part (ReadsOr (rules_in later l) s (annotation o) Any) (λ u. stands g.name.at l later)) (sym h)
 
-    pub none_bounds : (old new : State) (c : Sharing) (r : Result (Unit {0}) Refusal) → g.bound ≡ None → Judges (bound_ends g.name.at) old new c done r → Judges (generics s (parameter g ∷ [])) old new c done r
-    none_bounds old new c r h w = judges_as (bound_ends g.name.at) (generics s (parameter g ∷ [])) old new c done r (λ l later. unbounded l later h) w
+    pub none_bounds : (old new : State) (c : Sharing) (r : Result (Unit {0}) Refusal) → g.bound ≡ None → Judges (stands g.name.at) old new c done r → Judges (generics s (parameter g ∷ [])) old new c done r
+    none_bounds old new c r h w = judges_as (stands g.name.at) (generics s (parameter g ∷ [])) old new c done r (λ l later. unbounded l later h) w
 
     pub bound_refused : (b : value.TypeNode) (old new : State) (a c : Sharing) (e : Refusal) → g.bound ≡ Some b → Judges (reads s (type_node b)) old new a as_term (Err e) → Judges (generics s (parameter g ∷ [])) old new c done (Err e)
     bound_refused b old new a c e h w =
-        judges_as (λ l later. Part (reads s (type_node b) l later) (λ u. bound_ends g.name.at l later)) (generics s (parameter g ∷ [])) old new c done (Err e) (λ l later. bounded b l later h)
-        (first_judges (reads s (type_node b)) (λ l later u. bound_ends g.name.at l later) old new a c as_term done e w)
+        judges_as (λ l later. Part (reads s (type_node b) l later) (λ u. stands g.name.at l later)) (generics s (parameter g ∷ [])) old new c done (Err e) (λ l later. bounded b l later h)
+        (first_judges (reads s (type_node b)) (λ l later u. stands g.name.at l later) old new a c as_term done e w)
 
     pub bound_read : (b : value.TypeNode) (id : TermId) (old mid new : State) (a c : Sharing) (r : Result (Unit {0}) Refusal) → g.bound ≡ Some b → Passed (reads s (type_node b) old.listed) old mid a (as_term id)
-        → Judges (bound_ends g.name.at) mid new c done r → Judges (generics s (parameter g ∷ [])) old new c done r
+        → Judges (stands g.name.at) mid new c done r → Judges (generics s (parameter g ∷ [])) old new c done r
     bound_read b id old mid new a c r h p w =
-        judges_as (λ l later. Part (reads s (type_node b) l later) (λ u. bound_ends g.name.at l later)) (generics s (parameter g ∷ [])) old new c done r (λ l later. bounded b l later h)
-        (then_judges (reads s (type_node b)) (λ l later u. bound_ends g.name.at l later) old mid new a c (as_term id) done r p w)
+        judges_as (λ l later. Part (reads s (type_node b) l later) (λ u. stands g.name.at l later)) (generics s (parameter g ∷ [])) old new c done r (λ l later. bounded b l later h)
+        (then_judges (reads s (type_node b)) (λ l later u. stands g.name.at l later) old mid new a c (as_term id) done r p w)
 
   pub all_generics : (gs : List value_parameter.TypeParameter) (old new : State) (c : Sharing) (r : Result (Unit {0}) Refusal) → Judges (turns one_generic gs) old new c done r → Judges (generics s (map parameter gs)) old new c done r
   all_generics gs old new c r w = judges_as (turns one_generic gs) (generics s (map parameter gs)) old new c done r (λ l later. generics_are l later gs) w

@@ -6,9 +6,10 @@ use Rattle.typing_rules.specs.declared.condition.Condition.TheVariants as condit
 use Rattle.typing_rules.specs.AbstractSyntax.{Named, TypeNode, TypeFields, TypeParameter}
 use Rattle.typing_rules.specs.AbstractSyntax as p
 use Rattle.typing_rules.specs.Terms.{Term}
+use Rattle.typing_rules.specs.Terms as t
 use Rattle.typing_rules.specs.Definitions.{Definitions}
 use Rattle.typing_rules.specs.Heads.{head}
-use Rattle.typing_rules.specs.Judgements.{Judgement, Part, Tests, Needs, IsShareable, Fine}
+use Rattle.typing_rules.specs.Judgements.{Judgement, Part, Tests, Needs, Meets, IsShareable, Fine}
 use Rattle.typing_rules.specs.TypeScopes.{TypeScope}
 use Rattle.typing_rules.specs.TypeScopes as scopes
 use Rattle.typing_rules.specs.Types.{Proper, FieldsProper, MethodsProper, Reads, ReadsOr, ReadsEach, Defines, Generics, ends, is_shared_function}
@@ -82,6 +83,13 @@ reads_each s ns l later = ReadsEach (rules_in later l) s ns
 
 abbrev pub bound_ends : ℕ → Rule (Unit {0})
 bound_ends at l later = Tests condition.BadDefinition at (ends (rules_in later l) at) Fine
+
+abbrev pub is_met : ℕ → Rule (Unit {0})
+is_met at l later = Meets (t.Parameter at) Fine
+
+-- the type parameter at this place, whose bound is read
+abbrev pub stands : ℕ → Rule (Unit {0})
+stands at l later = Tests condition.BadDefinition at (ends (rules_in later l) at) (is_met at l later)
 
 abbrev pub generics : TypeScope → List TypeParameter → Rule (Unit {0})
 generics s gs l later = Generics (rules_in later l) s gs

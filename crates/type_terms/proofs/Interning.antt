@@ -1,6 +1,8 @@
 -- What a set of forms says of a table, and what putting a form into it does.
-use Rattle.std.proofs.Common.{◌≡◌, ◌⊎◌, inl, inr, ℕ, zero, suc, Bool, true, false, ◌||◌, List, [], ◌∷◌, ◌++◌, length, slice_get, Some, if◌then◌else◌, refl, sym, ap, ◌∙◌, subst}
+use Rattle.std.proofs.Common.{◌≡◌, ◌⊎◌, inl, inr, ℕ, zero, suc, Bool, true, false, ◌||◌, List, [], ◌∷◌, ◌++◌, length, slice_get, Some, get_or, position, if◌then◌else◌, refl, sym, ap, ◌∙◌, subst}
 use Rattle.std.specs.List.{list_any, IsDistinct, AllByRecursion}
+use Rattle.std.proofs.lemmas.List.Quantifiers.{position-Some}
+use Rattle.std.proofs.lemmas.Option.{slice_get-get_or}
 use Rattle.indexmap.specs.IndexSet.{insert_key}
 use Rattle.type_terms.specs.declared.form.Form.{Form}
 use Rattle.type_terms.specs.declared.form.TermId.{TermId}
@@ -43,7 +45,7 @@ or_second : (b c : Bool) → b || c ≡ false → c ≡ false
 or_second true c h = cc
 or_second false c h = h
 
-new_form : (xs : List Form) (f : Form) → list_any (same_form f) xs ≡ false → IsNew xs f
+pub new_form : (xs : List Form) (f : Form) → list_any (same_form f) xs ≡ false → IsNew xs f
 new_form [] f h i e = cc
 new_form (x ∷ xs) f h zero e =
     let g : Some x ≡ Some f = e in let k : f ≡ x = cc in clash f x k (or_first (same_form f x) (list_any (same_form f) xs) h)
@@ -75,3 +77,9 @@ interns old new f k id e there s = by (list_any (same_form f) old) refl where
       let n : new ≡ old ++ f ∷ [] = e ∙ ap (λ (b : Bool). if b then old else old ++ f ∷ []) t in
       let w : IsNew old f = new_form old f t in
       inr (w, last w (last_at old f f id.index (subst (λ (xs : List Form). slice_get xs id.index ≡ Some f) n is)), n)
+
+-- the place of a form that was found
+pub found_at : (xs : List Form) (f : Form) (i : ℕ) → position (same_form f) xs ≡ Some i → slice_get xs i ≡ Some f
+found_at xs f i e =
+    let p = position-Some (same_form f) xs i f e in
+    slice_get-get_or xs i f p.0 ∙ ap (λ (x : Form). Some x) (sym ((form_decides f (get_or xs i f)).0 p.1))

@@ -1,5 +1,5 @@
 -- Tables of terms: forms whose parts are forms before them, none twice.
-use Rattle.std.specs.Prelude.{◌≡◌, ℕ, ◌<◌, List, [], ◌∷◌, ◌++◌, ◌⊎◌, length, slice_get, Some}
+use Rattle.std.specs.Prelude.{◌≡◌, ℕ, ◌<◌, ◌≤◌, List, [], ◌∷◌, ◌++◌, ◌⊎◌, length, slice_get, Some}
 use Rattle.mo_types.specs.Sub.{Each}
 use Rattle.type_terms.specs.declared.form.Form.{Form}
 use Rattle.type_terms.specs.declared.form.TermId.{TermId}
@@ -12,6 +12,11 @@ PartsBelow n f = Each (λ p. p.index < n) (parts f)
 -- each form is made of those before it
 abbrev pub Founded : List Form → Type 0
 Founded forms = (i : ℕ) (f : Form) → slice_get forms i ≡ Some f → PartsBelow i f
+
+-- a table, whose numbers are those of 32 bits
+pub record IsTable (forms : List Form) : Type 0 where
+  pub founded : Founded forms
+  pub few : length forms ≤ 4294967295
 
 -- no form stands under two numbers
 abbrev pub Distinct : List Form → Type 0

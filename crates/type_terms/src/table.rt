@@ -1,7 +1,7 @@
 //! Tables of terms.
-ghost use Rattle.std.specs.Prelude.{◌≡◌, ◌<◌, ◌==◌, [], length, slice_get, Some, IfOk, OnErr};
+ghost use Rattle.std.specs.Prelude.{◌≡◌, ◌<◌, ◌==◌, [], length, slice_get, Some, IfNone, IfOk, IfSome, OnErr};
 ghost use Rattle.mo_types.specs.Heads.{map_option};
-ghost use Rattle.type_terms.specs.Tables.{Distinct, Founded, Interns, PartsBelow};
+ghost use Rattle.type_terms.specs.Tables.{Distinct, Founded, Interns, IsNew, PartsBelow};
 
 use crate::{Form, TermId};
 use indexmap::IndexSet;
@@ -29,13 +29,13 @@ impl Drop for Terms {
 impl Model for Terms {
     ghost use Rattle.std.specs.Prelude.{List};
     ghost use Rattle.type_terms.specs.declared.form.Form.{Form};
-    ghost use Rattle.type_terms.specs.Tables.{Founded};
+    ghost use Rattle.type_terms.specs.Tables.{IsTable};
 
     ghost Value = { List Form };
 
     ghost view = { λ t. t.forms.keys };
 
-    ghost invariant = { λ t. Founded t.forms.keys };
+    ghost invariant = { λ t. IsTable t.forms.keys };
 }
 
 impl Terms {
@@ -87,6 +87,19 @@ impl Terms {
         match self.get_index(id.index as usize) {
             Some(form) => form,
             None => unreachable!(),
+        }
+    }
+
+    /// The term of a form, where it is one of the table.
+    pub fn find(&self, form: &Form) -> Option<TermId>
+        ensures there { IfSome result (λ id. slice_get self.now id.index ≡ Some form.now) }
+        ensures missing { IfNone result (IsNew self.now form.now) }
+    {
+        match self.forms.get_index_of(form) {
+            Some(index) => Some(TermId {
+                index: index as u32,
+            }),
+            None => None,
         }
     }
 

@@ -1,9 +1,10 @@
 -- A type that has too many others in it is refused.
 use Rattle.std.proofs.Common.{◌≡◌, ◌≢◌, inl, inr, ℕ, zero, suc, ◌<◌, ◌≤◌, List, [], ◌∷◌, length, Err, refl, ap, sym, ◌∙◌, arith}
 use Rattle.mo_types.specs.Sub.{Each}
+use Rattle.mo_types.specs.Layout as layout
 use Rattle.typed_tree.specs.OperationTypes.{Distinct}
 use Rattle.typing_rules.specs.declared.condition.Condition.TheVariants as condition
-use Rattle.typing_rules.specs.Terms.{Term, Optional, nat}
+use Rattle.typing_rules.specs.Terms.{Term, Optional, nat, unit}
 use Rattle.typing_rules.specs.Definitions.{Definitions}
 use Rattle.typing_rules.specs.Heads.{head}
 use Rattle.typing_rules.specs.Counts.{Reached, Met, Part, FewTypes}
@@ -11,6 +12,7 @@ use Rattle.typing_rules.specs.Answers.{fault}
 use Rattle.typing_rules.specs.Gathered.{gathered}
 use Rattle.typing_rules.specs.LimitRows.{with_options}
 use Rattle.typing_rules.specs.Programs.{Checks}
+use Rattle.typing_rules.proofs.Closed.{few_are}
 
 abbrev option : ℕ → Term
 option zero = nat
@@ -52,11 +54,18 @@ module _ (defs : Definitions) (met : List Term) where
   all_reached zero r = (r, tt)
   all_reached (suc n) r = (r, all_reached n (inside n r))
 
-not_few : (defs : Definitions) (n : ℕ) → 4096 ≤ n → FewTypes defs (option n ∷ []) → ⊥
+not_few : (defs : Definitions) (n : ℕ) → 4096 ≤ n → FewTypes defs (unit ∷ option n ∷ []) → ⊥
 not_few defs n l f =
-    let h : length (options_in n) ≤ 4096 = (f (options_in n) (distinct n) (all_reached defs (option n ∷ []) n (Met (option n) (inl refl)))).0 in
+    let h : length (options_in n) ≤ 4096 = (f (options_in n) (distinct n) (all_reached defs (unit ∷ option n ∷ []) n (Met (option n) (inr (inl refl))))).0 in
     let e : length (options_in n) ≡ suc n = lengths n in
     omega arith
 
+few_unit : (defs : Definitions) → FewTypes defs (unit ∷ [])
+unfolding head layout.layout
+few_unit defs = few_are defs 2 (unit ∷ []) refl
+
 pub many_options : Checks (with_options 4096) (Err (fault condition.TooManyTypes 0))
-many_options = record { met = option 4096 ∷ []; by = inr (not_few (gathered (with_options 4096)) 4096 (omega arith), refl) }
+many_options = record {
+  met = unit ∷ option 4096 ∷ [];
+  by = inl (few_unit (gathered (with_options 4096)), inr (not_few (gathered (with_options 4096)) 4096 (omega arith), refl));
+}

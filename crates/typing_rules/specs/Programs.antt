@@ -5,9 +5,9 @@ use Rattle.typing_rules.specs.declared.condition.Condition.TheVariants as condit
 use Rattle.typing_rules.specs.AbstractSyntax.{Bytes, Program, Declaration, Declarations}
 use Rattle.typing_rules.specs.AbstractSyntax as p
 use Rattle.typing_rules.specs.AbstractPrograms.{abstract}
-use Rattle.typing_rules.specs.Terms.{Term, Fields}
+use Rattle.typing_rules.specs.Terms.{Term, Fields, unit}
 use Rattle.typing_rules.specs.Terms as t
-use Rattle.typing_rules.specs.Judgements.{Judgement, Gives, Part, Tests}
+use Rattle.typing_rules.specs.Judgements.{Judgement, Gives, Meets, Part, Tests}
 use Rattle.typing_rules.specs.Answers.{Fault, answer, Comes}
 use Rattle.typing_rules.specs.TypeScopes.{TypeScope, no_types}
 use Rattle.typing_rules.specs.DeclaredTypes.{with_list, parameter_terms}
@@ -47,12 +47,12 @@ first_context program =
 abbrev pub made_program : Program ℕ → Declarations Note → Program Note
 made_program program ds = record { imports = program.imports; name = program.name; fields = ds }
 
--- The actor's fields are a list of declarations.
+-- The actor's fields are a list of declarations. `()` is a type of every program.
 abbrev pub JudgeFieldsOf : Program ℕ → Judgement (Program Note)
 JudgeFieldsOf program =
-    Part (Listed (gathered program) (first_context program) program.fields
+    Meets unit (Part (Listed (gathered program) (first_context program) program.fields
     (λ known. JudgeOrder (gathered program) known 0 false program.fields None None) (λ known made. JudgeBodies (gathered program) known program.fields made))
-    (λ q. Gives (made_program program q.1))
+    (λ q. Gives (made_program program q.1)))
 
 -- There are at most 50,000 nodes, which is tested first.
 abbrev pub JudgeProgram : Program ℕ → Judgement (Program Note)

@@ -93,7 +93,8 @@ module _ (defs : Definitions) where
   abbrev pub ends : ℕ → Bool
   ends at = none_is_there (bound_of (head defs (promoted defs (length defs.parameters) (t.Parameter at))))
 
-  -- type parameters, whose bounds are read where all of them are in scope
+  -- type parameters, whose bounds are read where all of them are in scope; each is a type of the program, used or not
   abbrev pub Generics : TypeScope → List TypeParameter → Judgement (Unit {0})
   Generics s [] = Fine
-  Generics s (g ∷ rest) = Part (ReadsOr s g.bound t.Any) (λ _. Tests condition.BadDefinition g.name.at (ends g.name.at) (Generics s rest))
+  Generics s (g ∷ rest) =
+      Part (ReadsOr s g.bound t.Any) (λ _. Tests condition.BadDefinition g.name.at (ends g.name.at) (Meets (t.Parameter g.name.at) (Generics s rest)))

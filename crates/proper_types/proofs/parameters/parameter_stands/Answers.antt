@@ -13,8 +13,8 @@ returns-in_err-reads-in-Some c =
 
 pub returns-in_ok-reads-in-Some : goal.returns-in_ok-reads-in-Some
 returns-in_ok-reads-in-Some c =
-    bound_read (seen c.args.scope.now) c.args.one.now c.in-Some.bound c.in_ok-reads-in-Some.field-0 c.args.types.now c.reads.new.types c.bound_ends.new.types c.reads.new.sharing c.reads.new.sharing c.bound_ends.result c.in-Some.is
-    c.in_ok-reads-in-Some.ensures.judged c.bound_ends.ensures
+    bound_read (seen c.args.scope.now) c.args.one.now c.in-Some.bound c.in_ok-reads-in-Some.field-0 c.args.types.now c.reads.new.types c.stands.new.types c.reads.new.sharing c.reads.new.sharing c.stands.result c.in-Some.is
+    c.in_ok-reads-in-Some.ensures.judged c.stands.ensures
 
 pub returns-in-None : goal.returns-in-None
-returns-in-None c = none_bounds (seen c.args.scope.now) c.args.one.now c.args.types.now c.bound_ends-in-None.new.types c.args.sharing.now c.bound_ends-in-None.result c.in-None.is c.bound_ends-in-None.ensures
+returns-in-None c = none_bounds (seen c.args.scope.now) c.args.one.now c.args.types.now c.stands-in-None.new.types c.args.sharing.now c.stands-in-None.result c.in-None.is c.stands-in-None.ensures
