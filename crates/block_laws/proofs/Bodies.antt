@@ -1,24 +1,25 @@
 -- Bodies of functions and classes, behind what was evaluated in order.
-use Rattle.std.proofs.Common.{◌≡◌, ℕ, Bool, true, false, List, [], ◌∷◌, ◌++◌, Option, refl, sym, ap, subst}
+use Rattle.std.proofs.Common.{◌≡◌, ℕ, Bool, true, false, List, [], ◌∷◌, ◌++◌, Option, Some, refl, sym, ap, subst}
 use Rattle.mo_types.specs.declared.node.TypeId.{TypeId}
 use Rattle.mo_types.specs.Graph.{Slot}
 use Rattle.subtype_laws.specs.Reached.{Among}
 use Rattle.typing_rules.specs.AbstractSyntax.{Declaration, Declarations}
 use Rattle.typing_rules.specs.AbstractSyntax as p
-use Rattle.typing_rules.specs.AsyncPlaces.{Other}
-use Rattle.typing_rules.specs.Contexts.{Scope, Context, directly, with_values}
+use Rattle.typing_rules.specs.AsyncPlaces.{Local, Other, body_of}
+use Rattle.typing_rules.specs.Contexts.{Scope, Context, directly, with_values, in_body}
 use Rattle.typing_rules.specs.DeclaredTypes.{within}
 use Rattle.typing_rules.specs.Definitions.{Definitions}
-use Rattle.typing_rules.specs.Expressions.{JudgeBody, JudgeBodies}
+use Rattle.typing_rules.specs.Expressions.{Judge, JudgeBody, JudgeBodies}
 use Rattle.typing_rules.specs.Gathered.{of_generics, in_list, in_expression, in_declaration as gathered_in}
 use Rattle.typing_rules.specs.Lists.{Made, Entry as Given, no_entry, TakesMade, of_expression}
+use Rattle.typing_rules.specs.Signatures.{Parameters, ContextOf, async_term}
 use Rattle.typing_rules.specs.Terms.{Term, unit}
 use Rattle.desugaring.specs.Expressions.{becomes}
 use Rattle.desugaring.specs.FreeNames.{occurring}
 use Rattle.desugaring.specs.Pieces.{Becomes}
 use Rattle.desugaring_laws.specs.GraphOf.{IsGraphOf}
 use Rattle.desugaring_laws.specs.Yields.{Yields}
-use Rattle.desugaring_laws.proofs.Yielding.{more, part as after}
+use Rattle.desugaring_laws.proofs.Yielding.{anything, more, part as after}
 use Rattle.scope_laws.specs.Gathers.{Gathers}
 use Rattle.scope_laws.proofs.Parts.{left_part, right_part}
 use Rattle.declaration_laws.specs.Made.{ValueMade, OneMade}
@@ -60,8 +61,10 @@ module _ (defs : Definitions) (slots : List Slot) (terms : List Term) (number : 
   body_made : (e : Context) (n : ℕ) (d : Declaration ℕ) (v : Option Term) (one : Given) (ms : List Made) → Gathers defs (gathered_in e.types d) → IsReady defs slots terms number e.types d → IsSigned defs terms vs e.types d
       → IsEvaluated defs slots terms number vs e d v one → Yields defs terms (JudgeBody defs (end e) n d (one.made ++ ms)) (Left e d v one ms)
   body_made e n (p.Let q a) v one ms g r k i = takes defs slots terms number (λ b. IsMade defs slots terms number vs (end e) e (p.Let q a) v one b) one.made ms (only defs slots terms number (λ b. IsMade defs slots terms number vs (end e) e (p.Let q a) v one b) one i)
-  body_made e n (p.Var stable x u a) v one ms g r k i =
-      takes defs slots terms number (λ b. IsMade defs slots terms number vs (end e) e (p.Var stable x u a) v one b) one.made ms (only defs slots terms number (λ b. IsMade defs slots terms number vs (end e) e (p.Var stable x u a) v one b) one i)
+  body_made e n (p.Var false x u a) v one ms g r k i =
+      takes defs slots terms number (λ b. IsMade defs slots terms number vs (end e) e (p.Var false x u a) v one b) one.made ms (only defs slots terms number (λ b. IsMade defs slots terms number vs (end e) e (p.Var false x u a) v one b) one i)
+  body_made e n (p.Var true x u a) v one ms g r k i =
+      takes defs slots terms number (λ b. IsMade defs slots terms number vs (end e) e (p.Var true x u a) v one b) one.made ms (only defs slots terms number (λ b. IsMade defs slots terms number vs (end e) e (p.Var true x u a) v one b) one i)
   body_made e n (p.NamedObject x fields) v one ms g r k i =
       takes defs slots terms number (λ b. IsMade defs slots terms number vs (end e) e (p.NamedObject x fields) v one b) one.made ms (only defs slots terms number (λ b. IsMade defs slots terms number vs (end e) e (p.NamedObject x fields) v one b) one i)
   body_made e n (p.Evaluate a) v one ms g r k i =
@@ -71,15 +74,22 @@ module _ (defs : Definitions) (slots : List Slot) (terms : List Term) (number : 
   body_made e n (p.Func x g body) v one ms gathers r k i =
       subst (λ z. Yields defs terms (JudgeBody defs (end e) n (p.Func x g body) (z.made ++ ms)) (Left e (p.Func x g body) v z ms)) (sym i)
       (more defs terms (JudgeBody defs (end e) n (p.Func x g body) ms) _ (Left e (p.Func x g body) v no_entry ms)
-      (declared_functions_are_typed defs slots terms number graph units vs (end e) n ms x g body r.0 (left_part defs (of_generics (within e.types g) g.generics) (in_expression (within e.types g) body) gathers) r.1 r.2 k r.3)
+      (declared_functions_are_typed defs slots terms number graph units vs (end e) n ms x g body r.0 (left_part defs (of_generics (within e.types g) g.generics) (in_expression (within e.types g) body) gathers) r.1 k.1 k.0 r.2)
       (λ q h. (h.0, (h.1, refl))))
-  body_made e n (p.Method query context x g body) v one ms gathers r k i = absurd r
-  body_made e n (p.System x body) v one ms gathers r k i = absurd r
+  body_made e n (p.Method query context x g body) v one ms gathers r k i =
+      let P = Left e (p.Method query context x g body) v one ms in
+      after defs terms (ContextOf defs e.types context) _ (λ c. Unit {0}) P (anything defs terms (ContextOf defs e.types context)) (λ c z.
+      after defs terms (Parameters defs e.types g.parameters []) _ (λ ps. Unit {0}) P (anything defs terms (Parameters defs e.types g.parameters [])) (λ ps y.
+      let j = Judge defs (in_body (body_of query) (Some (async_term e.types g.result)) (ps.scope ++ c.0) (end e)) body (Some (async_term e.types g.result)) in
+      after defs terms j _ (λ b. Unit {0}) P (anything defs terms j) (λ b h. (ap (λ z. z.made ++ ms) i, (refl, ap (λ z. z.scope) i)))))
+  body_made e n (p.System x body) v one ms gathers r k i =
+      let j = Judge defs (in_body Local (Some unit) [] (end e)) body (Some unit) in
+      after defs terms j _ (λ b. Unit {0}) (Left e (p.System x body) v one ms) (anything defs terms j) (λ b h. (ap (λ z. z.made ++ ms) i, (refl, ap (λ z. z.scope) i)))
   body_made e n (p.TypeAlias x parameters u) v one ms gathers r k i = (ap (λ z. z.made ++ ms) i, (refl, ap (λ z. z.scope) i))
   body_made e n (p.Class x g fields) v one ms gathers r k i =
       subst (λ z. Yields defs terms (JudgeBody defs (end e) n (p.Class x g fields) (z.made ++ ms)) (Left e (p.Class x g fields) v z ms)) (sym i)
       (more defs terms (JudgeBody defs (end e) n (p.Class x g fields) ms) _ (Left e (p.Class x g fields) v no_entry ms)
-      (classes_are_typed defs slots terms number graph units vs (end e) n ms x g fields r.0 gathers r.1 r.2 k r.3)
+      (classes_are_typed defs slots terms number graph units vs (end e) n ms x g fields r.0 gathers r.1 k.1 k.0 r.2)
       (λ q h. (h.0, (h.1, refl))))
 
   pub bodies_made : (e : Context) (ds : Declarations ℕ) (given : List Given) → Gathers defs (in_list e.types ds) → AreReady defs slots terms number e.types ds → AreSigned defs terms vs e.types ds

@@ -1,4 +1,5 @@
 pub mod Signing
+pub mod Bounds
 pub mod Orders
 pub mod Bodies
 pub mod Listing

@@ -54,7 +54,7 @@ module _ (defs : Definitions) (slots : List Slot) (terms : List Term) (number : 
       (subst (λ k. Yields defs terms (JudgeBodies defs k ds run.made) P) (sym j.known_is)
       (subst (λ ms. Yields defs terms (JudgeBodies defs (end j.given) ds ms) P) (sym j.made_is)
       (bodies_are_made defs slots terms number graph units vs value w (behind j.given (in_scope e ds).values) (in_scope e ds) ds j.given gathers ready so j.evaluated))) (λ made k.
-      record { given = j.given; fine = fine; known = so; made = k; type_is = j.type_is }))
+      record { given = j.given; fine = fine; known = so; bound = j.bound; made = k; type_is = j.type_is }))
 
   pub list_made : Yields defs terms (Listed defs (directly Other e) ds (λ k. JudgeOrder defs k at value ds None w) (λ k made. JudgeBodies defs k ds made)) Whole
   list_made =

@@ -10,7 +10,7 @@ use Rattle.typed_tree.specs.OperationTypes.{Distinct}
 use Rattle.typed_tree.specs.Placing.{Declared}
 use Rattle.typing_rules.specs.AbstractSyntax.{Bytes, Declaration, Declarations}
 use Rattle.typing_rules.specs.AbstractSyntax as p
-use Rattle.typing_rules.specs.Contexts.{Bound, Scope, generic}
+use Rattle.typing_rules.specs.Contexts.{Bound, Scope, constant, generic}
 use Rattle.typing_rules.specs.DeclaredTypes.{function_term, class_term}
 use Rattle.typing_rules.specs.Lists.{Entry as Given}
 use Rattle.typing_rules.specs.Terms.{Term}
@@ -21,7 +21,7 @@ use Rattle.expression_laws.proofs.Forms.{in_left, in_right}
 use Rattle.list_laws.specs.Facts.{Fact, Evaluates, IsFunction, Other, FunctionBefore}
 use Rattle.list_laws.proofs.Reaching.{unequal}
 use Rattle.declaration_laws.specs.Laws.{own_of}
-use Rattle.block_laws.specs.Lists.{signed_one, signed}
+use Rattle.block_laws.specs.Lists.{method_term, signed_one, signed}
 use Rattle.block_laws.specs.Order.{fact_of, facts_of, first_scope, others}
 use Rattle.block_laws.proofs.Keeping.{evaluated_names, function_names, Defined, AreApart, differ_apart, differ_behind, split_function, not_both}
 
@@ -100,7 +100,7 @@ skip_one s (p.Class x g fields) y h u = ap (λ z. cond z (Some (generic (own_of 
 skip_one s (p.Let q a) y h u = refl
 skip_one s (p.Var stable x v a) y h u = refl
 skip_one s (p.NamedObject x fields) y h u = refl
-skip_one s (p.Method query context x g body) y h u = refl
+skip_one s (p.Method query context x g body) y h u = ap (λ z. cond z (Some (constant (method_term s query g))) (named u y)) (unequal y x.bytes (λ e. h (inl e)))
 skip_one s (p.System x body) y h u = refl
 skip_one s (p.TypeAlias x parameters v) y h u = refl
 skip_one s (p.Evaluate a) y h u = refl

@@ -9,7 +9,7 @@ use Rattle.typing_rules.specs.AsyncPlaces.{Other}
 use Rattle.typing_rules.specs.Contexts.{Context, directly, with_values}
 use Rattle.typing_rules.specs.Definitions.{Definitions}
 use Rattle.typing_rules.specs.Expressions.{Judge, JudgeOne, JudgeOrder}
-use Rattle.typing_rules.specs.Lists.{Entry as Given, EndsList, of_expression}
+use Rattle.typing_rules.specs.Lists.{EndsList, of_expression}
 use Rattle.typing_rules.specs.Terms.{Term, unit}
 use Rattle.desugaring.specs.FreeNames.{occurring}
 use Rattle.desugaring_laws.specs.GraphOf.{IsGraphOf}
@@ -24,9 +24,11 @@ use Rattle.declaration_laws.specs.Made.{ValueMade, OneMade}
 use Rattle.declaration_laws.proofs.Lets.{lets_are_typed}
 use Rattle.declaration_laws.proofs.Objects.{named_objects_are_typed}
 use Rattle.declaration_laws.proofs.Values.{values_are_typed}
-use Rattle.declaration_laws.proofs.Variables.{variables_are_typed}
+use Rattle.declaration_laws.proofs.Variables.{variables_are_typed, stable_variables_are_typed}
+use Rattle.block_laws.specs.Bound.{IsBoundSo}
 use Rattle.block_laws.specs.Laws.{OrdersAreMade}
 use Rattle.block_laws.specs.Lists.{IsReady, AreReady, IsEvaluated, EndsAs, OrderMade}
+use Rattle.block_laws.proofs.Bounds.{one_bound}
 
 module _ (defs : Definitions) (slots : List Slot) (terms : List Term) (number : Term → TypeId) (graph : IsGraphOf defs slots terms number) (units : Among unit terms) (vs : List ℕ) (at : ℕ) (value : Bool) (w : Option Term)
     (known : (u : Term) → w ≡ Some u → IsKnown defs terms vs u) where
@@ -48,10 +50,10 @@ module _ (defs : Definitions) (slots : List Slot) (terms : List Term) (number : 
       → Yields defs terms (JudgeOne defs (directly Other e) n d v) (IsEvaluated defs slots terms number vs e d v)
   one_made e n (p.Let q a) v r k = lets_are_typed defs slots terms number graph units vs e n q a r.0 r.1 v
   one_made e n (p.Var false x u a) v r k = variables_are_typed defs slots terms number graph units vs e n x u a r v
-  one_made e n (p.Var true x u a) v r k = absurd r
+  one_made e n (p.Var true x u a) v r k = stable_variables_are_typed defs slots terms number graph units vs e n x u a r v
   one_made e n (p.Func x g body) v r k = refl
-  one_made e n (p.Method query context x g body) v r k = absurd r
-  one_made e n (p.System x body) v r k = absurd r
+  one_made e n (p.Method query context x g body) v r k = refl
+  one_made e n (p.System x body) v r k = refl
   one_made e n (p.TypeAlias x parameters u) v r k = refl
   one_made e n (p.Class x g fields) v r k = refl
   one_made e n (p.NamedObject x fields) v r k = named_objects_are_typed defs slots terms number graph units vs e n x fields r v
@@ -70,14 +72,14 @@ module _ (defs : Definitions) (slots : List Slot) (terms : List Term) (number : 
       → Yields defs terms (JudgeOrder defs (directly Other e) at value ds last w) (OrderMade defs slots terms number vs value e ds last w)
   order_made e p.End last r =
       after defs terms (EndsList at last w) _ (EndsAs defs slots terms number last w) (OrderMade defs slots terms number vs value e p.End last w) (ends last w known) (λ u i.
-      record { given = []; evaluated = tt; known_is = refl; made_is = refl; type_is = i })
+      record { given = []; evaluated = tt; bound = tt; known_is = refl; made_is = refl; type_is = i })
   order_made e (p.Then public n d rest) last r =
       let v = of_expression value rest w in
-      after defs terms (JudgeOne defs (directly Other e) n d v) _ (IsEvaluated defs slots terms number vs e d v) (OrderMade defs slots terms number vs value e (p.Then public n d rest) last w)
-      (one_made e n d v r.0 (next_fine value rest)) (λ one i.
+      after defs terms (JudgeOne defs (directly Other e) n d v) _ (λ one. IsEvaluated defs slots terms number vs e d v one × IsBoundSo e.types d one) (OrderMade defs slots terms number vs value e (p.Then public n d rest) last w)
+      (both defs terms (JudgeOne defs (directly Other e) n d v) (IsEvaluated defs slots terms number vs e d v) (IsBoundSo e.types d) (one_made e n d v r.0 (next_fine value rest)) (one_bound defs terms e n d v)) (λ one i.
       after defs terms (JudgeOrder defs (directly Other (with_values one.scope e)) at value rest one.value w) _ (OrderMade defs slots terms number vs value (with_values one.scope e) rest one.value w)
       (OrderMade defs slots terms number vs value e (p.Then public n d rest) last w) (order_made (with_values one.scope e) rest one.value r.1) (λ run j.
-      record { given = one ∷ j.given; evaluated = (i, j.evaluated); known_is = j.known_is; made_is = ap (λ ms. one.made ++ ms) j.made_is; type_is = j.type_is }))
+      record { given = one ∷ j.given; evaluated = (i.0, j.evaluated); bound = (i.1, j.bound); known_is = j.known_is; made_is = ap (λ ms. one.made ++ ms) j.made_is; type_is = j.type_is }))
 
 pub orders_are_made : OrdersAreMade
 orders_are_made defs slots terms number graph units vs at value w known e ds last r = order_made defs slots terms number graph units vs at value w known e ds last r

@@ -28,7 +28,7 @@ use Rattle.list_laws.specs.Facts.{Fact, At, scope_at, Stands}
 use Rattle.list_laws.specs.Laws.{Walked}
 use Rattle.list_laws.proofs.Placed.{lists_are_typed}
 use Rattle.block_laws.specs.Laws.{ListsAreWalked}
-use Rattle.block_laws.specs.Lists.{AreMade, ListMade, in_scope, behind}
+use Rattle.block_laws.specs.Lists.{AreMade, AreKept, ListMade, in_scope, behind}
 use Rattle.block_laws.specs.Order.{IsInOrder, facts_of}
 use Rattle.block_laws.proofs.Naming.{defined_named, facts_apart, functions_apart, facts_bound, skip_signed}
 use Rattle.block_laws.proofs.Whole.{facts_are, all_bind_only, behind_all}
@@ -55,7 +55,7 @@ not_bound bound (x ∷ xs) y m n = by (list_any (λ z. bytes_eq x z) bound) refl
 
 module _ (defs : Definitions) (slots : List Slot) (terms : List Term) (number : Term → TypeId) (graph : IsGraphOf defs slots terms number) (e : Context) (ds : Declarations ℕ) (f : Frame) (c : typed.Context)
     (fits : Fits defs slots terms number e.types (without (names_of_list ds) (in_declarations ds)) (directly Other e) f c) (value : Bool) (w : Option Term) (q : Term × Declarations Note)
-    (m : ListMade defs slots terms number c.parameters value e ds w q) (o : IsInOrder defs slots number (with_list e.types ds) ds q.1) where
+    (m : ListMade defs slots terms number c.parameters value e ds w q) (kept : AreKept defs slots terms number f c ds m.given) (o : IsInOrder defs slots number (with_list e.types ds) ds q.1) where
   abbrev k : Context
   k = in_scope e ds
 
@@ -97,7 +97,7 @@ module _ (defs : Definitions) (slots : List Slot) (terms : List Term) (number : 
       (λ y i n. not_bound (names_of_list ds) (in_declarations ds) y i (defined_named slots number (with_list e.types ds) all ds q.1 m.given y n))
       (functions_apart slots number (with_list e.types ds) all ds q.1 m.given o.differ)
       (facts_bound slots number (with_list e.types ds) all ds q.1 m.given o.differ e.values)
-      zero (in_scope e ds).values refl ds m.given q.1 None made m.known (o.used m.given) refl m.type_is) outside
+      zero (in_scope e ds).values refl ds m.given q.1 None made m.known (o.used m.given) refl m.type_is kept) outside
 
 pub lists_are_walked : ListsAreWalked
-lists_are_walked defs slots terms number graph e ds f c fits value w q m o has_value = walked defs slots terms number graph e ds f c fits value w q m o has_value
+lists_are_walked defs slots terms number graph e ds f c fits value w q m kept o has_value = walked defs slots terms number graph e ds f c fits value w q m kept o has_value

@@ -1,6 +1,6 @@
 -- Each declaration of a list is a fact of it.
-use Rattle.std.proofs.Common.{◌≡◌, ℕ, zero, suc, Bool, true, false, List, [], ◌∷◌, ◌++◌, length, map, Option, Some, None, refl, sym, ap, ◌∙◌, subst}
-use Rattle.mo_scopes.specs.Scopes.{named}
+use Rattle.std.proofs.Common.{◌≡◌, ℕ, suc, Bool, true, false, List, [], ◌∷◌, ◌++◌, length, map, Option, Some, None, refl, sym, ap, ◌∙◌, subst}
+use Rattle.std.specs.Prelude.{slice_get}
 use Rattle.mo_types.specs.declared.node.Sort.TheVariants as sort
 use Rattle.mo_types.specs.declared.node.TypeId.{TypeId}
 use Rattle.mo_types.specs.Graph.{Slot, head_at}
@@ -8,30 +8,30 @@ use Rattle.subtype_laws.specs.Reached.{Among}
 use Rattle.typed_tree.specs.ActionTypes as typed
 use Rattle.typed_tree.specs.Placing.{Declared, place}
 use Rattle.typed_tree.specs.Typing.{generic as stands_for}
-use Rattle.typed_tree.specs.Wants.{Want, Of}
+use Rattle.typed_tree.specs.Wants.{Of, KeptOf}
 use Rattle.typing_rules.specs.AbstractSyntax.{Bytes, Declaration, Declarations}
 use Rattle.typing_rules.specs.AbstractSyntax as p
 use Rattle.typing_rules.specs.AsyncPlaces.{Other as Apart}
-use Rattle.typing_rules.specs.Contexts.{Scope, Context, generic, directly}
+use Rattle.typing_rules.specs.Contexts.{Scope, Context, variable, generic, directly}
 use Rattle.typing_rules.specs.DeclaredTypes.{within, parameter_terms, class_type}
 use Rattle.typing_rules.specs.Definitions.{Definitions}
 use Rattle.typing_rules.specs.Lists.{Entry as Given, of_expression}
 use Rattle.typing_rules.specs.Terms.{Term, Terms, unit, listed}
 use Rattle.typing_rules.specs.Terms as t
 use Rattle.typing_rules.specs.TypedTrees.{Note}
-use Rattle.typing_rules.specs.TypeScopes.{TypeScope, term_or}
+use Rattle.typing_rules.specs.TypeScopes.{term_or}
 use Rattle.desugaring.specs.Expressions.{becomes, pieces}
 use Rattle.desugaring.specs.FreeNames.{names_in, occurring, in_declaration, declared}
-use Rattle.desugaring.specs.Frames.{Frame}
+use Rattle.desugaring.specs.Frames.{Frame, kept_at}
 use Rattle.desugaring.specs.Pieces.{Becomes, AStep, AFunction, AnExpression, Nothing, Piece, is_end}
 use Rattle.desugaring_laws.specs.GraphOf.{IsGraphOf}
 use Rattle.desugaring_laws.specs.Known.{IsKnown}
 use Rattle.expression_laws.specs.Fitting.{Fits}
 use Rattle.list_laws.specs.Facts.{Fact, Evaluates, IsFunction, Other, FunctionBefore, IsFact, AreFacts, scope_at, nth}
-use Rattle.declaration_laws.specs.Laws.{own_of, known_at, IsValueOf, IsPlaced}
-use Rattle.declaration_laws.specs.Made.{FunctionMade, StepMade, ValueMade}
-use Rattle.declaration_laws.proofs.Facts.{steps_are_facts, values_are_facts, functions_are_facts}
-use Rattle.block_laws.specs.Lists.{IsSigned, AreSigned, EndsAs, IsMade, AreMade, behind, last_of}
+use Rattle.declaration_laws.specs.Laws.{own_of, known_at, IsValueOf}
+use Rattle.declaration_laws.specs.Made.{FunctionMade, StepMade, StableMade, ValueMade}
+use Rattle.declaration_laws.proofs.Facts.{steps_are_facts, stable_steps_are_facts, values_are_facts, functions_are_facts}
+use Rattle.block_laws.specs.Lists.{IsSigned, AreSigned, EndsAs, IsMade, AreMade, IsKept, AreKept, behind, last_of}
 use Rattle.block_laws.specs.Order.{Reaches, UsesInOrder, AllInOrder, fact_of, facts_of}
 use Rattle.block_laws.proofs.Facts.{scope_of, dropped, nth_dropped, scope_first, scope_next, bound_at, function_at}
 use Rattle.block_laws.proofs.Keeping.{Defined, BindsOnly, AllBindOnly, AreApart, kept, bound_to_end}
@@ -46,9 +46,16 @@ module _ (defs : Definitions) (slots : List Slot) (terms : List Term) (number : 
   step_only uses xs s e (AnExpression x) m = absurd m
   step_only uses xs s e Nothing m = absurd m
 
+  stable_only : (uses : List Bytes) (x : Bytes) (s : Scope) (e : Context) (b : Becomes) → StableMade defs slots terms number vs uses e x s b → BindsOnly (Evaluates (x ∷ []) s)
+  stable_only uses x s e (AStep binds step) m = m.1
+  stable_only uses x s e (AFunction y g) m = absurd m
+  stable_only uses x s e (AnExpression y) m = absurd m
+  stable_only uses x s e Nothing m = absurd m
+
   one_only : (v : Scope) (d : Declaration ℕ) (wanted : Option Term) (one : Given) (x : Declared) (b : Becomes) → IsMade defs slots terms number vs last (record k { values = v }) d wanted one b → BindsOnly (fact_of slots number k.types all x d one.scope)
   one_only v (p.Let q a) wanted one x b m = step_only (occurring a) (names_in q) one.scope (directly Apart (record k { values = v })) b m
-  one_only v (p.Var stable y u a) wanted one x b m = step_only (occurring a) (y.bytes ∷ []) one.scope (directly Apart (record k { values = v })) b m
+  one_only v (p.Var true y u a) wanted one x b m = stable_only (occurring a) y.bytes one.scope (directly Apart (record k { values = v })) b m
+  one_only v (p.Var false y u a) wanted one x b m = step_only (occurring a) (y.bytes ∷ []) one.scope (directly Apart (record k { values = v })) b m
   one_only v (p.NamedObject y fields) wanted one x b m = step_only (in_declaration (p.NamedObject y fields)) (y.bytes ∷ []) one.scope (directly Apart (record k { values = v })) b m
   one_only v (p.Evaluate a) wanted one x b m = tt
   one_only v (p.Func y g body) wanted one x b m = tt
@@ -110,6 +117,15 @@ module _ (defs : Definitions) (slots : List Slot) (terms : List Term) (number : 
   step_fact n v e uses xs s d last (AnExpression x) m there = absurd m
   step_fact n v e uses xs s d last Nothing m there = absurd m
 
+  stable_fact : (n : ℕ) (v : Scope) → v ≡ scope_at n facts base → (uses : List Bytes) (x : Bytes) (s : Scope) → ((u : Term) → s ≡ (x, variable u) ∷ [] → slice_get c.names (kept_at f x) ≡ Some (KeptOf (number u))) → (d : Declared) (last : Bool) (b : Becomes)
+      → StableMade defs slots terms number c.parameters uses (directly Apart (at v)) x s b → ((y : Bytes) → Among y uses → Reaches outer facts (suc n) n y) → IsFactAt n last d b (Evaluates (x ∷ []) s)
+  stable_fact n v e uses x s kept d last (AStep binds step) m there =
+      stable_steps_are_facts defs slots terms number (directly Apart k) base f c outer facts fit n uses binds step x s kept
+      (subst (λ z. StableMade defs slots terms number c.parameters uses (directly Apart (at z)) x s (AStep binds step)) e m) there
+  stable_fact n v e uses x s kept d last (AFunction y g) m there = absurd m
+  stable_fact n v e uses x s kept d last (AnExpression y) m there = absurd m
+  stable_fact n v e uses x s kept d last Nothing m there = absurd m
+
   value_fact : (n : ℕ) (v : Scope) → v ≡ scope_at n facts base → (uses : List Bytes) (d : Declared) (last : Bool) (o wanted : Option Term) (b : Becomes) → ValueMade defs slots terms number c.parameters uses (directly Apart (at v)) wanted o b
       → ((u : Term) → o ≡ Some u → IsValueOf number last (Of (number type)) None u) → ((y : Bytes) → Among y uses → Reaches outer facts (suc n) n y) → IsFactAt n last d b Other
   value_fact n v e uses d last None wanted b m is there = absurd m
@@ -144,18 +160,19 @@ module _ (defs : Definitions) (slots : List Slot) (terms : List Term) (number : 
 
     one_fact : (n : ℕ) (v : Scope) → v ≡ scope_at n facts base → (d : Declaration ℕ) (wanted : Option Term) (one : Given) (x : Declared) (b : Becomes) (last : Bool) → IsMade defs slots terms number c.parameters end (at v) d wanted one b
         → IsSigned defs terms c.parameters k.types d → UsesInOrder outer all facts n x d → nth n facts ≡ Some (FactOf x d one.scope)
-        → ((u : Term) → one.value ≡ Some u → IsValueOf number last (Of (number type)) None u) → IsFactAt n last x b (FactOf x d one.scope)
-    one_fact n v e (p.Let q a) wanted one x b last m s there is end_is = step_fact n v e (occurring a) (names_in q) one.scope x last b m there
-    one_fact n v e (p.Var stable y u a) wanted one x b last m s there is end_is = step_fact n v e (occurring a) (y.bytes ∷ []) one.scope x last b m there
-    one_fact n v e (p.NamedObject y fields) wanted one x b last m s there is end_is = step_fact n v e (in_declaration (p.NamedObject y fields)) (y.bytes ∷ []) one.scope x last b m there
-    one_fact n v e (p.Evaluate a) wanted one x b last m s there is end_is = value_fact n v e (occurring a) x last one.value wanted b m.0 end_is there
-    one_fact n v e (p.Func y g body) wanted one x b last m s there is end_is =
-        function_fact n (in_declaration (p.Func y g body)) x last b y.bytes (own_of g) (parameter_terms (within k.types g) g.parameters) (term_or (within k.types g) g.result unit) s m.0 is there
-    one_fact n v e (p.Class y g fields) wanted one x b last m s there is end_is =
-        function_fact n (in_declaration (p.Class y g fields)) x last b y.bytes (own_of g) (parameter_terms (within k.types g) g.parameters) (class_type (within k.types g) y) s m.0 is there
-    one_fact n v e (p.Method query context y g body) wanted one x b last m s there is end_is = subst (λ z. IsFactAt n last x z Other) (sym m.0) tt
-    one_fact n v e (p.System y body) wanted one x b last m s there is end_is = subst (λ z. IsFactAt n last x z Other) (sym m.0) tt
-    one_fact n v e (p.TypeAlias y parameters u) wanted one x b last m s there is end_is = subst (λ z. IsFactAt n last x z Other) (sym m.0) tt
+        → ((u : Term) → one.value ≡ Some u → IsValueOf number last (Of (number type)) None u) → IsKept defs slots terms number f c d one → IsFactAt n last x b (FactOf x d one.scope)
+    one_fact n v e (p.Let q a) wanted one x b last m s there is end_is kept = step_fact n v e (occurring a) (names_in q) one.scope x last b m there
+    one_fact n v e (p.Var false y u a) wanted one x b last m s there is end_is kept = step_fact n v e (occurring a) (y.bytes ∷ []) one.scope x last b m there
+    one_fact n v e (p.Var true y u a) wanted one x b last m s there is end_is kept = stable_fact n v e (occurring a) y.bytes one.scope kept x last b m there
+    one_fact n v e (p.NamedObject y fields) wanted one x b last m s there is end_is kept = step_fact n v e (in_declaration (p.NamedObject y fields)) (y.bytes ∷ []) one.scope x last b m there
+    one_fact n v e (p.Evaluate a) wanted one x b last m s there is end_is kept = value_fact n v e (occurring a) x last one.value wanted b m.0 end_is there
+    one_fact n v e (p.Func y g body) wanted one x b last m s there is end_is kept =
+        function_fact n (in_declaration (p.Func y g body)) x last b y.bytes (own_of g) (parameter_terms (within k.types g) g.parameters) (term_or (within k.types g) g.result unit) s.0 m.0 is there
+    one_fact n v e (p.Class y g fields) wanted one x b last m s there is end_is kept =
+        function_fact n (in_declaration (p.Class y g fields)) x last b y.bytes (own_of g) (parameter_terms (within k.types g) g.parameters) (class_type (within k.types g) y) s.0 m.0 is there
+    one_fact n v e (p.Method query context y g body) wanted one x b last m s there is end_is kept = subst (λ z. IsFactAt n last x z Other) (sym m.0) tt
+    one_fact n v e (p.System y body) wanted one x b last m s there is end_is kept = subst (λ z. IsFactAt n last x z Other) (sym m.0) tt
+    one_fact n v e (p.TypeAlias y parameters u) wanted one x b last m s there is end_is kept = subst (λ z. IsFactAt n last x z Other) (sym m.0) tt
 
     type_of_value : (o : Option Term) → EndsAs defs slots terms number o w type → (u : Term) → o ≡ Some u → type ≡ u
     type_of_value None i u e = cc
@@ -175,19 +192,19 @@ module _ (defs : Definitions) (slots : List Slot) (terms : List Term) (number : 
     last_so v (p.Then public n d rest) (one ∷ ones) (p.Then public_too k' b bs) o m i u e = tt
 
     pub facts_are : (n : ℕ) (v : Scope) → v ≡ scope_at n facts base → (ds : Declarations ℕ) (given : List Given) (made : Declarations Note) (o : Option Term) → AreMade defs slots terms number c.parameters end value (at v) ds w given made
-        → AreSigned defs terms c.parameters k.types ds → AllInOrder outer all facts n ds made → dropped n facts ≡ facts_of slots number k.types all ds made given → EndsAs defs slots terms number (last_of o given) w type
+        → AreSigned defs terms c.parameters k.types ds → AllInOrder outer all facts n ds made → dropped n facts ≡ facts_of slots number k.types all ds made given → EndsAs defs slots terms number (last_of o given) w type → AreKept defs slots terms number f c ds given
         → AreFacts defs slots terms number k.body base f c outer facts all whole has_value (Of (number type)) n (pieces defs number made) (facts_of slots number k.types all ds made given)
-    facts_are n v e p.End [] p.End o m s there h i = tt
-    facts_are n v e p.End [] (p.Then public j d bs) o m s there h i = absurd m
-    facts_are n v e p.End (one ∷ ones) made o m s there h i = absurd m
-    facts_are n v e (p.Then public j d rest) [] made o m s there h i = absurd m
-    facts_are n v e (p.Then public j d rest) (one ∷ ones) p.End o m s there h i = absurd m
-    facts_are n v e (p.Then public j d rest) (one ∷ ones) (p.Then public_too l b bs) o m s there h i =
+    facts_are n v e p.End [] p.End o m s there h i kept = tt
+    facts_are n v e p.End [] (p.Then public j d bs) o m s there h i kept = absurd m
+    facts_are n v e p.End (one ∷ ones) made o m s there h i kept = absurd m
+    facts_are n v e (p.Then public j d rest) [] made o m s there h i kept = absurd m
+    facts_are n v e (p.Then public j d rest) (one ∷ ones) p.End o m s there h i kept = absurd m
+    facts_are n v e (p.Then public j d rest) (one ∷ ones) (p.Then public_too l b bs) o m s there h i kept =
         let x = FactOf (declared b) d one.scope in
         let q = nth_dropped n facts x (facts_of slots number k.types all rest bs ones) h in (
           q.0,
-          one_fact n v e d (of_expression value rest w) one (declared b) (becomes defs number l b) (is_end all whole has_value (pieces defs number bs)) m.1 s.0 there.0 q.0 (last_so (one.scope ++ v) rest ones bs one.value m.2 i),
+          one_fact n v e d (of_expression value rest w) one (declared b) (becomes defs number l b) (is_end all whole has_value (pieces defs number bs)) m.1 s.0 there.0 q.0 (last_so (one.scope ++ v) rest ones bs one.value m.2 i) kept.0,
           facts_are (suc n) (one.scope ++ v)
               (ap (λ z. one.scope ++ z) e ∙ (ap (λ z. z ++ scope_at n facts base) (scope_is defs slots terms number c.parameters end value w k all v d (of_expression value rest w) one (declared b) (becomes defs number l b) m.1) ∙ sym (scope_next n facts base x q.0)))
-              rest ones bs one.value m.2 s.1 there.1 q.1 i,
+              rest ones bs one.value m.2 s.1 there.1 q.1 i kept.1,
         )

@@ -29,7 +29,7 @@ use Rattle.expression_laws.specs.Fitting.{Fits}
 use Rattle.list_laws.specs.Facts.{At}
 use Rattle.list_laws.specs.Laws.{Walked}
 use Rattle.scope_laws.specs.Gathers.{Gathers}
-use Rattle.block_laws.specs.Lists.{signed, AreSigned, AreReady, AreEvaluated, OrderMade, AreMade, ListMade, in_scope, made_of}
+use Rattle.block_laws.specs.Lists.{signed, AreSigned, AreReady, AreEvaluated, OrderMade, AreMade, AreKept, ListMade, in_scope, made_of}
 use Rattle.block_laws.specs.Order.{IsInOrder, facts_of}
 
 -- The signatures of a list bind the names of its functions and classes to the types that are written.
@@ -65,7 +65,7 @@ abbrev pub ListsAreWalked : Type 0
 ListsAreWalked =
     (defs : Definitions) (slots : List Slot) (terms : List Term) (number : Term → TypeId) → IsGraphOf defs slots terms number → (e : Context) (ds : Declarations ℕ) (f : Frame) (c : typed.Context)
     → Fits defs slots terms number e.types (without (names_of_list ds) (in_declarations ds)) (directly Other e) f c → (value : Bool) (w : Option Term) (q : Term × Declarations Note)
-    → (m : ListMade defs slots terms number c.parameters value e ds w q) → IsInOrder defs slots number (with_list e.types ds) ds q.1 → (has_value : Bool)
+    → (m : ListMade defs slots terms number c.parameters value e ds w q) → AreKept defs slots terms number f c ds m.given → IsInOrder defs slots number (with_list e.types ds) ds q.1 → (has_value : Bool)
     → Walked slots (pieces defs number q.1)
     (At defs slots terms number e.body (in_scope e ds).values f c (without (names_of_list ds) (in_declarations ds)) (facts_of slots number (with_list e.types ds) (map (λ b. b.declared) (pieces defs number q.1)) ds q.1 m.given))
     (Of (number q.0)) (arranged has_value (pieces defs number q.1) f) c

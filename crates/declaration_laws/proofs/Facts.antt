@@ -23,7 +23,7 @@ use Rattle.expression_laws.proofs.Heads.{function_head}
 use Rattle.list_laws.specs.Facts.{Fact, scope_at, Around, Gives}
 use Rattle.list_laws.specs.Standing.{StandsIn}
 use Rattle.declaration_laws.specs.Made.{Standing, StepTyped}
-use Rattle.declaration_laws.specs.Laws.{known_at, IsValueOf, StepsAreFacts, ValuesAreFacts, FunctionsAreFacts}
+use Rattle.declaration_laws.specs.Laws.{known_at, IsValueOf, StepsAreFacts, StableStepsAreFacts, ValuesAreFacts, FunctionsAreFacts}
 
 module _ (defs : Definitions) (slots : List Slot) (terms : List Term) (number : Term → TypeId) (e : Context) (base : Scope) (f0 : Frame) (c0 : typed.Context) (outer : List Bytes) (facts : List Fact)
     (fit : Fits defs slots terms number e.types [] e f0 c0) where
@@ -57,6 +57,7 @@ module _ (defs : Definitions) (slots : List Slot) (terms : List Term) (number : 
 pub steps_are_facts : StepsAreFacts
 steps_are_facts defs slots terms number e base f0 c0 outer facts fit n uses binds step xs s made there = record {
   names = made.0;
+  none_kept = made.3;
   uses = uses;
   there = there;
   others = made.1;
@@ -64,6 +65,24 @@ steps_are_facts defs slots terms number e base f0 c0 outer facts fit n uses bind
       let w : Standing defs slots terms number c0.parameters uses (known_at e base facts n) =
       record { frame = f; context = c; parameters = a.parameters; fits = around_fits defs slots terms number e base f0 c0 outer facts fit uses (scope_at n facts base) f c a } in
       let i : StepTyped defs slots terms number c0.parameters uses (known_at e base facts n) binds step xs s w = made.2 w in (
+        i.wants,
+        i.declares,
+        i.many,
+        (λ y m u b h rest ms. subst (λ vs. StandsIn defs slots terms number vs e.body (binds ++ rest) (i.wants ++ ms) y b) a.parameters (i.stand y m u b h rest ms)),
+      );
+}
+
+pub stable_steps_are_facts : StableStepsAreFacts
+stable_steps_are_facts defs slots terms number e base f0 c0 outer facts fit n uses binds step x s kept made there = record {
+  names = made.0;
+  none_kept = made.3;
+  uses = uses;
+  there = there;
+  others = made.1;
+  typed = λ f c a.
+      let w : Standing defs slots terms number c0.parameters uses (known_at e base facts n) =
+      record { frame = f; context = c; parameters = a.parameters; fits = around_fits defs slots terms number e base f0 c0 outer facts fit uses (scope_at n facts base) f c a } in
+      let i : StepTyped defs slots terms number c0.parameters uses (known_at e base facts n) binds step (x ∷ []) s w = made.2.3 w (a.kept x ∙ kept made.2.0 made.2.1) in (
         i.wants,
         i.declares,
         i.many,

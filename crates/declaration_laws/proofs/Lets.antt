@@ -4,8 +4,10 @@ use Rattle.std.proofs.lemmas.Slice.Eq.{bytes_eq-Decides}
 use Rattle.std.specs.Prelude.{cond}
 use Rattle.std.specs.Str.{bytes_eq}
 use Rattle.mo_scopes.specs.Scopes.{named}
+use Rattle.mo_types.specs.declared.node.Sort.TheVariants as sort
 use Rattle.mo_types.specs.declared.node.TypeId.{TypeId}
 use Rattle.mo_types.specs.Graph.{Slot}
+use Rattle.mo_types.specs.Heads.{async_of}
 use Rattle.mo_types.specs.Sub.{Each}
 use Rattle.subtype_laws.specs.Reached.{Among}
 use Rattle.typed_tree.specs.declared.expression.Form.TheOpen as F
@@ -22,10 +24,11 @@ use Rattle.typed_tree.proofs.Rules.{steps}
 use Rattle.typed_tree.proofs.Views.{pattern_views}
 use Rattle.typing_rules.specs.AbstractSyntax.{Bytes, Pattern, TypeNode, Expression}
 use Rattle.typing_rules.specs.AbstractSyntax as p
-use Rattle.typing_rules.specs.AsyncPlaces.{Named, Other}
+use Rattle.typing_rules.specs.AsyncPlaces.{Body, Update, Query, Local, calls, Named, Other}
 use Rattle.typing_rules.specs.Contexts.{Bound, Scope, Context, constant, directly}
 use Rattle.typing_rules.specs.Definitions.{Definitions}
 use Rattle.typing_rules.specs.Expressions.{Judge, JudgeOne}
+use Rattle.typing_rules.specs.Heads.{head}
 use Rattle.typing_rules.specs.Judgements.{Gives, Case, Part as Bind}
 use Rattle.typing_rules.specs.Lists.{entry, Entry as Given}
 use Rattle.typing_rules.specs.Patterns.{Stands}
@@ -46,14 +49,15 @@ use Rattle.desugaring_laws.specs.Yields.{Yields}
 use Rattle.desugaring_laws.proofs.Graph.{reflexive}
 use Rattle.desugaring_laws.proofs.Patterns.{patterns_are_typed, entered_on}
 use Rattle.desugaring_laws.proofs.Scoping.{written_fine}
+use Rattle.desugaring_laws.proofs.Weakening.{each_more}
 use Rattle.desugaring_laws.proofs.Yielding.{more, part as after}
-use Rattle.expression_laws.specs.Fitting.{AFuture, Fits}
+use Rattle.expression_laws.specs.Fitting.{sort_of, AFuture, Fits}
 use Rattle.expression_laws.specs.Laws.{IsPatternFine}
 use Rattle.expression_laws.specs.Results.{GivesValue, GivesFuture, Gives as Gives_, Becomes, AreTyped}
 use Rattle.expression_laws.proofs.BoundNames.{names_bound, names_kept, both}
 use Rattle.expression_laws.proofs.Naming.{names_of, names_stand, not_entered}
 use Rattle.expression_laws.proofs.Wanting.{for_all}
-use Rattle.list_laws.specs.Standing.{entry_names, StandsAt, StandsIn}
+use Rattle.list_laws.specs.Standing.{entry_names, NoneKept, StandsAt, StandsIn}
 use Rattle.list_laws.proofs.Reaching.{unequal}
 use Rattle.declaration_laws.specs.Made.{Standing, StepTyped, StepMade, OneMade}
 use Rattle.declaration_laws.specs.Laws.{LetsAreTyped}
@@ -70,6 +74,23 @@ constant_is x y u v b e h = by (bytes_eq y x) ((bytes_eq-Decides y x).1 (sym e))
   by : (t : Bool) → t ≡ true → cond t (Some (constant v)) (named u y) ≡ Some b → constant v ≡ b
   by true i k = let q : Some (constant v) ≡ Some b = k in cc
   by false i k = cc
+
+values_unkept : (xs : List Bytes) → NoneKept (map value xs)
+values_unkept [] = tt
+values_unkept (x ∷ xs) = values_unkept xs
+
+-- names of types that are no futures
+entered_plain : (defs : Definitions) (xs : Names) → Distinct (names_of xs) → Each (λ x. async_of (head defs x.1) ≡ None) xs → (s : Scope) (y : Bytes) → Among y (names_of xs) → (b : Bound) → named (entered xs s) y ≡ Some b → async_of (head defs b.type) ≡ None
+entered_plain defs [] d k s y m b h = absurd m
+entered_plain defs (x ∷ xs) d k s y (inl e) b h =
+    let there = sym (not_entered xs ((x.0, constant x.1) ∷ s) y (subst (λ z. Each (λ v. z ≢ v) (names_of xs)) e d.0)) ∙ h in
+    subst (λ z. async_of (head defs z.type) ≡ None) (constant_is x.0 y s x.1 b e there) k.0
+entered_plain defs (x ∷ xs) d k s y (inr m) b h = entered_plain defs xs d.1 k.1 ((x.0, constant x.1) ∷ s) y m b h
+
+not_called : (b : Body) → calls b ≡ false → sort_of b ≡ sort.Shared → ⊥
+not_called Update e h = cc
+not_called Query e h = cc
+not_called Local e h = cc
 
 values_named : (xs : List Bytes) → entry_names (map value xs) ≡ xs
 values_named [] = refl
@@ -123,6 +144,9 @@ module _ (defs : Definitions) (slots : List Slot) (terms : List Term) (number : 
     stand = λ y m scope c h rest ms.
         names_stand defs slots terms number s.context.parameters e.body [] xs d (subst (λ z. Each (λ x. IsKnown defs terms s.context.parameters x.1) z) same k) scope rest ms (λ z n. absurd n) y (inl m) c
         (ap (λ z. named z y) (entered_on xs scope) ∙ h);
+    plain = λ no y m scope c h.
+        entered_plain defs xs d (subst (λ z. Each (λ x. async_of (head defs x.1) ≡ None) z) same (each_more (λ x. IsKnown defs terms s.context.parameters x.1) (λ x. async_of (head defs x.1) ≡ None) (λ x i. i.fine.no_future) (bound_names q) k)) scope y m c
+        (ap (λ z. named z y) (entered_on xs scope) ∙ h);
   }
 
   others_stay : (xs : Names) (y : Bytes) → (Among y (names_of xs) → ⊥) → (u : Scope) → named (entered xs [] ++ u) y ≡ named u y
@@ -145,6 +169,7 @@ module _ (defs : Definitions) (slots : List Slot) (terms : List Term) (number : 
             (subst (λ z. StepTyped defs slots terms number vs (occurring a) (directly Other e) (map value (names_in r.1)) (λ f. roll-Step (F.Let (pattern defs number r.1) (written_out defs number f b))) z (entered xs []) s) same
             (subst (λ z. StepTyped defs slots terms number vs (occurring a) (directly Other e) (map value z) (λ f. roll-Step (F.Let (pattern defs number r.1) (written_out defs number f b))) (names_of xs) (entered xs []) s) (sym (names_bound r.1))
             (let_step xs r.1 refl (subst (λ z. Distinct z) (sym same) fine.distinct) u b s (i s) (st.stands (number u) (reflexive defs slots terms number graph (number u))) st.known)))),
+        values_unkept (names_in r.1),
       )
 
   abbrev Goal : ℕ → Pattern ℕ → Option Term → Type 0
@@ -191,6 +216,7 @@ module _ (defs : Definitions) (slots : List Slot) (terms : List Term) (number : 
     ));
     many = refl;
     stand = λ y m v c k rest ms. by y m v c k rest ms;
+    plain = λ no y m v c k. absurd (not_called e.body no (sym s.fits.body_is ∙ h.called));
   }
     where
       by : (y : Bytes) → Among y (x ∷ []) → (v : Scope) (c : Bound) → named ((x, constant (type_of b)) ∷ v) y ≡ Some c → (rest : List Entry) (ms : List (Want TypeId))
@@ -213,6 +239,7 @@ module _ (defs : Definitions) (slots : List Slot) (terms : List Term) (number : 
         refl,
         (λ y absent v. ap (λ t. cond t (Some (constant (type_of b))) (named v y)) (unequal y x (λ q. absent (inl q)))),
         (λ s. one_step at x b s (i s).gives),
+        tt,
       ))
 
 pub lets_are_typed : LetsAreTyped

@@ -1,5 +1,5 @@
 -- Objects with declarations.
-use Rattle.std.proofs.Common.{◌≡◌, inl, inr, ℕ, zero, false, List, [], ◌∷◌, Some, refl, sym, ap, subst}
+use Rattle.std.proofs.Common.{◌≡◌, inl, inr, ℕ, zero, false, List, [], ◌∷◌, Some, None, refl, sym, ap, subst}
 use Rattle.std.proofs.lemmas.Slice.Eq.{bytes_eq-Decides}
 use Rattle.std.specs.Prelude.{cond}
 use Rattle.mo_scopes.specs.Scopes.{named}
@@ -57,6 +57,7 @@ use Rattle.scope_laws.proofs.Scoped.{names_with_list, parameters_listed}
 use Rattle.declaration_laws.specs.Made.{Standing, StepTyped, StepMade, OneMade}
 use Rattle.declaration_laws.specs.Objects.{FieldsJudged, written_fields, BecomeObject, NamedObjectsAreTyped}
 use Rattle.declaration_laws.proofs.Lets.{constant_is}
+use Rattle.declaration_laws.proofs.Variables.{found_one}
 
 pub object_head : (defs : Definitions) (fs : Fields) → head defs (t.Object fs) ≡ node.Object (listed_fields fs)
 unfolding head
@@ -85,6 +86,7 @@ module _ (defs : Definitions) (slots : List Slot) (terms : List Term) (number : 
         declares = (steps slots (F.Let (at_type defs number u P.Bind) (tree w.frame)) w.context (Of (number u) ∷ [])).1 (inl (number u, h, i.stands (number u) (reflexive defs slots terms number graph (number u))));
         many = refl;
         stand = λ y m v c q rest ms. by y m v c q rest ms;
+        plain = λ no y m v c h. subst (λ z. async_of (head defs z.type) ≡ None) (constant_is x y v u c (found_one x y m) h) k.fine.no_future;
       }
     where
       by : (y : Bytes) → Among y (x ∷ []) → (v : Scope) (c : Bound) → named ((x, constant u) ∷ v) y ≡ Some c → (rest : List Entry) (ms : List (Want TypeId))
@@ -113,4 +115,5 @@ named_objects_are_typed defs slots terms number graph units vs e n x fields j w 
           let k = object_known defs terms s.context.parameters e.types s.fits.types s.fits.bounds fields y.1 m in
           bound_step defs slots terms number graph units vs uses e x.bytes (t.Object fs) (λ f. object_of_names defs number (t.Object fs) (public_names q.1) (arranged false (pieces defs number q.1) f)) s k
           ((i s (t.Object fs) k (object_head defs fs)).typed (number (t.Object fs)) (reflexive defs slots terms number graph (number (t.Object fs))))),
+      tt,
     )))

@@ -1,5 +1,5 @@
 -- Declarations of lists are written out to typed ones.
-use Rattle.std.specs.Prelude.{◌≡◌, ◌++◌, ℕ, suc, Bool, List, [], ◌∷◌, length, map, Option, Some, None, true, false}
+use Rattle.std.specs.Prelude.{◌≡◌, ◌++◌, ℕ, suc, Bool, List, [], ◌∷◌, length, map, Option, Some, None, true, false, slice_get}
 use Rattle.mo_scopes.specs.Scopes.{named}
 use Rattle.mo_types.specs.declared.node.Sort.TheVariants as sort
 use Rattle.mo_types.specs.declared.node.TypeId.{TypeId}
@@ -11,11 +11,11 @@ use Rattle.typed_tree.specs.declared.expression.TypedExpression.{TypedExpression
 use Rattle.typed_tree.specs.ActionTypes as typed
 use Rattle.typed_tree.specs.Placing.{Declared, place}
 use Rattle.typed_tree.specs.Typing.{Signature, generic as stands_for}
-use Rattle.typed_tree.specs.Wants.{Want, Of}
+use Rattle.typed_tree.specs.Wants.{Want, Of, KeptOf}
 use Rattle.typing_rules.specs.AbstractSyntax.{Bytes, Named, Pattern, TypeNode, Expression, Declarations}
 use Rattle.typing_rules.specs.AbstractSyntax as p
 use Rattle.typing_rules.specs.AsyncPlaces.{Other}
-use Rattle.typing_rules.specs.Contexts.{Bound, Scope, Context, generic, directly}
+use Rattle.typing_rules.specs.Contexts.{Bound, Scope, Context, variable, generic, directly}
 use Rattle.typing_rules.specs.DeclaredTypes.{within, parameter_terms, function_term, class_term}
 use Rattle.typing_rules.specs.Definitions.{Definitions}
 use Rattle.typing_rules.specs.Expressions.{JudgeOne, JudgeBody}
@@ -26,7 +26,7 @@ use Rattle.typing_rules.specs.Terms.{Term, Terms, unit, listed}
 use Rattle.typing_rules.specs.Terms as t
 use Rattle.typing_rules.specs.TypeScopes.{TypeScope, names_of, places_of, term_or}
 use Rattle.desugaring.specs.Expressions.{becomes}
-use Rattle.desugaring.specs.Frames.{Entry, Frame}
+use Rattle.desugaring.specs.Frames.{Entry, Frame, kept_at}
 use Rattle.desugaring.specs.FreeNames.{names_in, occurring, in_declaration}
 use Rattle.desugaring.specs.Pieces.{AStep, AFunction, AnExpression}
 use Rattle.desugaring_laws.specs.GraphOf.{IsGraphOf}
@@ -39,16 +39,17 @@ use Rattle.expression_laws.specs.Results.{AreTyped, IsWantFine}
 use Rattle.function_laws.specs.Laws.{AreParametersFine}
 use Rattle.list_laws.specs.Facts.{Fact, scope_at, Reach, StepFact, FunctionFact, ValueFact}
 use Rattle.scope_laws.specs.Gathers.{Gathers}
-use Rattle.declaration_laws.specs.Made.{AreFresh, AreThere, FunctionMade, StepMade, ValueMade, OneMade}
+use Rattle.declaration_laws.specs.Made.{AreFresh, AreThere, FunctionMade, StepMade, StableMade, ValueMade, OneMade}
 
 -- the type parameters of a function
 abbrev pub own_of : p.Signature ℕ → List ℕ
 own_of g = places_of (names_of g.generics)
 
--- a name is bound to a function of this type, with these type parameters
+-- a name is bound to a function of this type, with these type parameters, each of which was met
 pub record IsBoundTo (defs : Definitions) (terms : List Term) (vs : List ℕ) (x : Named) (gs : List ℕ) (u : Term) (one : Scope) : Type 0 where
   pub bound : one ≡ (x.bytes, generic gs u) ∷ []
   pub known : IsKnown defs terms (gs ++ vs) u
+  pub there : AreThere terms gs
 
 -- The signature of a function, or of a class, gives its type by what is written.
 abbrev pub SignaturesAreKnown : Type 0
@@ -91,6 +92,13 @@ VariablesAreTyped =
     → (vs : List ℕ) (e : Context) (n : ℕ) (x : Named) (u : Option TypeNode) (a : Expression ℕ) → AreTyped defs slots terms number e.types a → (w : Option Term)
     → Yields defs terms (JudgeOne defs (directly Other e) n (p.Var false x u a) w) (λ one. OneMade defs slots terms number (StepMade defs slots terms number vs (occurring a) (directly Other e) (x.bytes ∷ []) one.scope) one)
 
+-- A stable one does where what was kept of it stands.
+abbrev pub StableVariablesAreTyped : Type 0
+StableVariablesAreTyped =
+    (defs : Definitions) (slots : List Slot) (terms : List Term) (number : Term → TypeId) → IsGraphOf defs slots terms number → Among unit terms
+    → (vs : List ℕ) (e : Context) (n : ℕ) (x : Named) (u : Option TypeNode) (a : Expression ℕ) → AreTyped defs slots terms number e.types a → (w : Option Term)
+    → Yields defs terms (JudgeOne defs (directly Other e) n (p.Var true x u a) w) (λ one. OneMade defs slots terms number (StableMade defs slots terms number vs (occurring a) (directly Other e) x.bytes one.scope) one)
+
 -- An expression becomes a value of the type that it gives.
 abbrev pub ValuesAreTyped : Type 0
 ValuesAreTyped =
@@ -111,6 +119,15 @@ StepsAreFacts =
     → Fits defs slots terms number e.types [] e f c → (n : ℕ) (uses : List Bytes) (binds : List Entry) (step : Frame → Step) (xs : List Bytes) (s : Scope)
     → StepMade defs slots terms number c.parameters uses (known_at e base facts n) xs s (AStep binds step) → ((y : Bytes) → Among y uses → Reach defs slots terms number e.body base f c outer facts (suc n) n y)
     → StepFact defs slots terms number e.body base f c outer facts n binds step xs s
+
+-- So is one that binds a stable variable, where what was kept of it stands around the list.
+abbrev pub StableStepsAreFacts : Type 0
+StableStepsAreFacts =
+    (defs : Definitions) (slots : List Slot) (terms : List Term) (number : Term → TypeId) (e : Context) (base : Scope) (f : Frame) (c : typed.Context) (outer : List Bytes) (facts : List Fact)
+    → Fits defs slots terms number e.types [] e f c → (n : ℕ) (uses : List Bytes) (binds : List Entry) (step : Frame → Step) (x : Bytes) (s : Scope)
+    → ((u : Term) → s ≡ (x, variable u) ∷ [] → slice_get c.names (kept_at f x) ≡ Some (KeptOf (number u)))
+    → StableMade defs slots terms number c.parameters uses (known_at e base facts n) x s (AStep binds step) → ((y : Bytes) → Among y uses → Reach defs slots terms number e.body base f c outer facts (suc n) n y)
+    → StepFact defs slots terms number e.body base f c outer facts n binds step (x ∷ []) s
 
 -- where the value of a list is to serve, if its last expression is wanted so, or has this type
 abbrev pub IsValueOf : (Term → TypeId) → Bool → Want TypeId → Option Term → Term → Type 0

@@ -1,7 +1,7 @@
 //! Declarations of lists are written out to typed ones.
 ghost use Rattle.declaration_laws.specs.Classes.{ClassesAreTyped};
 ghost use Rattle.declaration_laws.specs.Objects.{BlocksAreTyped, ObjectsAreTyped, NamedObjectsAreTyped};
-ghost use Rattle.declaration_laws.specs.Laws.{SignaturesAreKnown, DeclaredFunctionsAreTyped, LetsAreTyped, VariablesAreTyped, ValuesAreTyped, StepsAreFacts, ValuesAreFacts, FunctionsAreFacts};
+ghost use Rattle.declaration_laws.specs.Laws.{SignaturesAreKnown, DeclaredFunctionsAreTyped, LetsAreTyped, VariablesAreTyped, StableVariablesAreTyped, ValuesAreTyped, StepsAreFacts, StableStepsAreFacts, ValuesAreFacts, FunctionsAreFacts};
 
 /// The signature of a function, or of a class, gives its type by what is written.
 pub fn signatures_are_known()
@@ -23,6 +23,11 @@ pub fn variables_are_typed()
     ensures { VariablesAreTyped }
 {}
 
+/// A stable `var` does where what was kept of it stands.
+pub fn stable_variables_are_typed()
+    ensures { StableVariablesAreTyped }
+{}
+
 /// An expression becomes a value of the type that it gives.
 pub fn values_are_typed()
     ensures { ValuesAreTyped }
@@ -31,6 +36,11 @@ pub fn values_are_typed()
 /// A step that is made so is a fact of its list, where each name that it uses stands.
 pub fn steps_are_facts()
     ensures { StepsAreFacts }
+{}
+
+/// So is a step that binds a stable variable, where what was kept of it stands around the list.
+pub fn stable_steps_are_facts()
+    ensures { StableStepsAreFacts }
 {}
 
 /// So is an expression.

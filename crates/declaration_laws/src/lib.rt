@@ -6,5 +6,6 @@ mod laws;
 pub use laws::{
     blocks_are_typed, classes_are_typed, declared_functions_are_typed, functions_are_facts,
     lets_are_typed, named_objects_are_typed, objects_are_typed, signatures_are_known,
-    steps_are_facts, values_are_facts, values_are_typed, variables_are_typed,
+    stable_steps_are_facts, stable_variables_are_typed, steps_are_facts, values_are_facts,
+    values_are_typed, variables_are_typed,
 };

@@ -102,7 +102,7 @@ module _ (S : Setting) (A : Place S) where
   sent s shared ps rs v k e takes body x hx es hes m =
       let r = result rs in
       let mr : Among r S.terms = parts_there S.defs S.slots S.terms S.number S.graph (t.Async r) r m (subst (λ y. Among r (types_in y)) (sym (async_head S.defs r)) (inl refl)) in
-      inr (future_node S A A.around takes (t.Async r) m r (async_head S.defs r) (result_known rs (results_scoped v k s ps rs e) mr) (F.Do (action.Send (map S.number ps) (map S.number rs)) (x ∷ es))
+      inr (future_node S A body A.around takes (t.Async r) m r (async_head S.defs r) (result_known rs (results_scoped v k s ps rs e) mr) (F.Do (action.Send (map S.number ps) (map S.number rs)) (x ∷ es))
       (Of (S.number v) ∷ of_each (head_at S.slots) (map S.number ps), (S.number v, S.number r, body, by s shared (there S v k.there (node.Func s ps rs) e), refl, result_of rs mr, refl), (hx, hes)))
     where
       by : (s : Sort) → s ≢ sort.Local → head_at S.slots (S.number v) ≡ node.Func s (map S.number ps) (map S.number rs)

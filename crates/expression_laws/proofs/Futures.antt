@@ -73,11 +73,12 @@ module _ (S : Setting) (A : Place S) where
       differ e = cc
 
   -- what gives a future
-  pub future_node : (o : Around) → TakesFuture o → (u : Term) → Among u S.terms → (v : Term) → head S.defs u ≡ node.Async v → Known S A v → (x : nodes.Layer) → form_typing S.slots x A.context (FutureOf (S.number v))
+  pub future_node : A.context.body ≡ sort.Shared → (o : Around) → TakesFuture o → (u : Term) → Among u S.terms → (v : Term) → head S.defs u ≡ node.Async v → Known S A v → (x : nodes.Layer) → form_typing S.slots x A.context (FutureOf (S.number v))
       → GivesFuture S.defs S.slots S.terms S.number A.context o u (nodes.node_of (S.number u) x)
-  future_node o takes u m v e k x h =
+  future_node called o takes u m v e k x h =
       let scoped : MentionsOnly (head S.defs) A.context.parameters u = made_scoped S.defs A.context.parameters u (node.Async v) e tt (only S A v k.fine.scoped) in
       record {
+        called = called;
         future = record { takes = takes; there = m; scoped = scoped; value = v; head_is = e; known = k };
         typed =
             a_node S.defs S.slots S.terms S.number S.graph A.context u (in_scope S.defs S.slots S.terms S.number S.graph A.context.parameters u m scoped) x (FutureOf (S.number v)) (FutureOf (S.number v))
@@ -109,7 +110,7 @@ module _ (S : Setting) (A : Place S) where
     name_gives none pl (AFuture q g c a f k h) m =
         let at_all = pl (ap (λ y. is_some (async_of y)) f) in
         inr (subst (λ z. GivesFuture S.defs S.slots S.terms S.number A.context A.around b.type (held S.defs S.number b.type z (at S.defs S.number b.type (F.Name (found A.frame x).index)))) (sym c)
-        (future_node A.around (takes_name_is A.around at_all.1) b.type m a f k (F.Name (found A.frame x).index) (FutureOf (S.number a), e ∙ ap (λ z. Some z) (h at_all.0), refl)))
+        (future_node (A.fits.body_is ∙ calls_shared A.known.body at_all.0) A.around (takes_name_is A.around at_all.1) b.type m a f k (F.Name (found A.frame x).index) (FutureOf (S.number a), e ∙ ap (λ z. Some z) (h at_all.0), refl)))
 
   pub name_typed : (n : ℕ) (x : Bytes) → Among x A.used → (w : Option Term) → WantKnown S A w → Yields S.defs S.terms (Rule S.defs A.around (directly Other A.known) n (p.Name x) w) (Is S A w)
   name_typed n x m w k =

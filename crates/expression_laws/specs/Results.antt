@@ -1,6 +1,7 @@
 -- What a judged expression becomes where it is written out.
 use Rattle.std.specs.Prelude.{◌≡◌, ◌⊎◌, ℕ, List, ◌∷◌, Option, Some, None}
 use Rattle.mo_types.specs.declared.node.Node.TheVariants as node
+use Rattle.mo_types.specs.declared.node.Sort.TheVariants as sort
 use Rattle.mo_types.specs.declared.node.TypeId.{TypeId}
 use Rattle.mo_types.specs.Graph.{Slot, head_at}
 use Rattle.subtype_laws.specs.Reached.{Among}
@@ -61,7 +62,9 @@ module _ (defs : Definitions) (slots : List Slot) (terms : List Term) (number : 
     pub typed : (t : TypeId) → Below (head_at slots) (number u) t → tree.Typed slots e c (Of t)
     pub unasked : tree.Typed slots e c Anything
 
+  -- where shared functions are called
   pub record GivesFuture (c : typed.Context) (o : Around) (u : Term) (e : TypedExpression) : Type 0 where
+    pub called : c.body ≡ sort.Shared
     pub future : IsFuture c.parameters o u
     pub typed : tree.Typed slots e c (FutureOf (number future.value))
 

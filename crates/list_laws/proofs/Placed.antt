@@ -31,8 +31,8 @@ use Rattle.function_laws.proofs.Instances.{eqb-self}
 use Rattle.list_laws.specs.Facts.{Fact, Evaluates, IsFunction, Other, scope_at, DefinedBefore, FunctionBefore, nth}
 use Rattle.list_laws.specs.Facts as facts_of
 use Rattle.list_laws.specs.Laws.{Walked, ListsAreTyped}
-use Rattle.list_laws.specs.Standing.{entry_names, StandsAt, StandsIn}
-use Rattle.list_laws.proofs.Reaching.{stands_beyond}
+use Rattle.list_laws.specs.Standing.{entry_names, NoneKept, StandsAt, StandsIn}
+use Rattle.list_laws.proofs.Reaching.{stands_beyond, kept_beyond}
 use Rattle.list_laws.proofs.Stages as stages
 
 lt_or_eq : (p n : ℕ) → p < suc n → (p < n) ⊎ (p ≡ n)
@@ -125,7 +125,7 @@ module _ (defs : Definitions) (slots : List Slot) (terms : List Term) (number : 
   At = facts_of.At defs slots terms number body base f0 c0 outer facts
 
   around_at : (k n : ℕ) (f : Frame) (c : Context) → At k n f c → (uses : List Bytes) → ((y : Bytes) → Among y uses → Reach k n y) → Around uses (scope_at n facts base) f c
-  around_at k n f c h uses r = record { stand = λ y m b e. h.stand y (r y m) b e; exits = h.exits; labels = h.labels; body_is = h.body_is; parameters = h.parameters }
+  around_at k n f c h uses r = record { stand = λ y m b e. h.stand y (r y m) b e; kept = h.kept; exits = h.exits; labels = h.labels; body_is = h.body_is; parameters = h.parameters }
 
   module _ (all : List Declared) (pieces : List Piece) (has_value : Bool) (of_list : Want TypeId) where
     -- the value of the list
@@ -147,6 +147,7 @@ module _ (defs : Definitions) (slots : List Slot) (terms : List Term) (number : 
     stays : (n : ℕ) (x : Fact) → nth n facts ≡ Some x → EntersNone x → (f : Frame) (c : Context) → At (suc n) n f c → At (suc n) (suc n) f c
     stays n x e none f c h = record {
       stand = λ y r b k. h.stand y (same y r) b (ap (λ z. named z y) (sym (scope_same n facts base x e none)) ∙ k);
+      kept = h.kept;
       exits = h.exits;
       labels = h.labels;
       body_is = h.body_is;
@@ -165,6 +166,7 @@ module _ (defs : Definitions) (slots : List Slot) (terms : List Term) (number : 
           q.1,
           record {
             stand = λ y r b k. on f c h q.0 q.2 q.3 y r b k (decided y xs);
+            kept = λ x. kept_beyond binds f.names q.0 c.names x i.none_kept q.2 ∙ h.kept x;
             exits = h.exits;
             labels = h.labels;
             body_is = h.body_is;
@@ -268,6 +270,10 @@ module _ (defs : Definitions) (slots : List Slot) (terms : List Term) (number : 
     first_names [] = refl
     first_names (g ∷ gs) = ap (λ l. g.0 ∷ l) (first_names gs)
 
+    none_kept : (gs : List Named) → NoneKept (names_of gs)
+    none_kept [] = tt
+    none_kept (g ∷ gs) = none_kept gs
+
     first_both : (gs hs : List Named) (y : Bytes) → Among y (first hs) → Among y (first (gs ++ hs))
     first_both [] hs y m = m
     first_both (g ∷ gs) hs y m = inr (first_both gs hs y m)
@@ -342,6 +348,7 @@ module _ (defs : Definitions) (slots : List Slot) (terms : List Term) (number : 
       behind_group : (n : ℕ) (f : Frame) (c : Context) → At n n f c → At (suc n) n (with_entries (names_of (group n pieces)) f) (with_names (wants_at n facts) c)
       behind_group n f c h = record {
         stand = λ y r b e. on y r b e (decided y (first (group n pieces)));
+        kept = λ x. kept_beyond (names_of (group n pieces)) f.names (wants_at n facts) c.names x (none_kept (group n pieces)) many ∙ h.kept x;
         exits = h.exits;
         labels = h.labels;
         body_is = h.body_is;
@@ -378,6 +385,7 @@ module _ (defs : Definitions) (slots : List Slot) (terms : List Term) (number : 
           i.no_context,
           i.typed fi ci (record {
             stand = λ z q v e. h.stand z (i.there z q).0 v (sym (i.there z q).1 ∙ e);
+            kept = h.kept;
             exits = h.exits;
             labels = h.labels;
             body_is = h.body_is;
@@ -392,7 +400,7 @@ module _ (defs : Definitions) (slots : List Slot) (terms : List Term) (number : 
       grouped n f c h = by (group n pieces) (wants_at n facts) (behind_group n f c h) (λ fi ci k. group_stands n fi ci k) where
         by : (gs : List Named) (ws : List (Want TypeId)) → At (suc n) n (with_entries (names_of gs) f) (with_names ws c)
             → ((fi : Frame) (ci : Context) → At (suc n) n fi ci → GroupStands (head_at slots) (IsFunctionOf slots) ci (map (λ g. g.1 fi) gs) ws) → stages.Grouped slots all pieces has_value At of_list gs n f c
-        by [] [] k s = record { stand = k.stand; exits = k.exits; labels = k.labels; body_is = k.body_is; parameters = k.parameters }
+        by [] [] k s = record { stand = k.stand; kept = k.kept; exits = k.exits; labels = k.labels; body_is = k.body_is; parameters = k.parameters }
         by [] (w ∷ ws) k s = absurd (s (with_entries [] f) (with_names (w ∷ ws) c) k)
         by (g ∷ gs) ws k s =
             let fi = with_entries (names_of (g ∷ gs)) f in
@@ -406,7 +414,7 @@ module _ (defs : Definitions) (slots : List Slot) (terms : List Term) (number : 
 pub lists_are_typed : ListsAreTyped
 lists_are_typed defs slots terms number body base f c outer facts pieces has_value of_list given around =
     walked defs slots terms number body base f c outer facts (map (λ b. b.declared) pieces) pieces has_value of_list given
-    (record { stand = λ y r b e. by y r b e; exits = refl; labels = refl; body_is = refl; parameters = refl })
+    (record { stand = λ y r b e. by y r b e; kept = λ x. refl; exits = refl; labels = refl; body_is = refl; parameters = refl })
   where
     no_function : (y : Bytes) (xs : List Fact) → FunctionBefore zero y xs → ⊥
     no_function y [] m = m

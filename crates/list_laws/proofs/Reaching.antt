@@ -12,10 +12,10 @@ use Rattle.typing_rules.specs.AsyncPlaces.{Body}
 use Rattle.typing_rules.specs.Contexts.{Bound}
 use Rattle.typing_rules.specs.Definitions.{Definitions}
 use Rattle.typing_rules.specs.Terms.{Term}
-use Rattle.desugaring.specs.Frames.{Entry, Named, Kept, Unnamed, Use, found_from}
+use Rattle.desugaring.specs.Frames.{Entry, Named, Kept, Unnamed, Use, found_from, kept_from}
 use Rattle.expression_laws.specs.Fitting.{StandsFor}
 use Rattle.expression_laws.proofs.Naming.{next, found_next}
-use Rattle.list_laws.specs.Standing.{entry_names, StandsAt, StandsIn}
+use Rattle.list_laws.specs.Standing.{entry_names, NoneKept, StandsAt, StandsIn}
 
 -- behind these entries
 abbrev pub shifted : List Entry → Use → Use
@@ -55,3 +55,30 @@ module _ (defs : Definitions) (slots : List Slot) (terms : List Term) (number : 
       let u = found_from zero rest y in
       subst (λ x. StandsAt defs slots terms number vs body x (ws ++ ns) b) (sym (found_beyond es rest y n))
       (i.0, slot_beyond es ws ns u h ∙ i.1, subst (λ c. StandsFor defs slots terms number vs body b c i.0) (sym (cell_beyond es u)) i.2)
+
+-- ---- what was kept of stable variables
+
+kept_next : (n : ℕ) (es : List Entry) (x : Bytes) → kept_from (suc n) es x ≡ suc (kept_from n es x)
+kept_next n [] x = refl
+kept_next n (Named y is_cell ∷ es) x = kept_next (suc n) es x
+kept_next n (Kept y ∷ es) x = by (bytes_eq y x) (kept_next (suc n) es x) where
+  by : (b : Bool) → kept_from (suc (suc n)) es x ≡ suc (kept_from (suc n) es x) → cond b (suc n) (kept_from (suc (suc n)) es x) ≡ suc (cond b n (kept_from (suc n) es x))
+  by true h = refl
+  by false h = h
+kept_next n (Unnamed ∷ es) x = kept_next (suc n) es x
+
+pub kept_beyond : {A : Type 0} (es rest : List Entry) (ws ns : List A) (x : Bytes) → NoneKept es → length ws ≡ length es → slice_get (ws ++ ns) (kept_from zero (es ++ rest) x) ≡ slice_get ns (kept_from zero rest x)
+kept_beyond [] rest [] ns x n h = refl
+kept_beyond [] rest (w ∷ ws) ns x n h = cc
+kept_beyond (e ∷ es) rest [] ns x n h = cc
+kept_beyond (Named y is_cell ∷ es) rest (w ∷ ws) ns x n h =
+    ap (λ i. slice_get (w ∷ (ws ++ ns)) i) (kept_next zero (es ++ rest) x) ∙ kept_beyond es rest ws ns x n (less (length ws) (length es) h)
+  where
+    less : (m k : ℕ) → suc m ≡ suc k → m ≡ k
+    less m k e = cc
+kept_beyond (Kept y ∷ es) rest (w ∷ ws) ns x n h = absurd n
+kept_beyond (Unnamed ∷ es) rest (w ∷ ws) ns x n h =
+    ap (λ i. slice_get (w ∷ (ws ++ ns)) i) (kept_next zero (es ++ rest) x) ∙ kept_beyond es rest ws ns x n (less (length ws) (length es) h)
+  where
+    less : (m k : ℕ) → suc m ≡ suc k → m ≡ k
+    less m k e = cc

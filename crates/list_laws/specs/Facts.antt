@@ -1,5 +1,5 @@
 -- What is known of each declaration of a list before its parts are put in order.
-use Rattle.std.specs.Prelude.{◌≡◌, ◌⊎◌, ◌<◌, ℕ, zero, suc, Bool, true, false, List, [], ◌∷◌, ◌++◌, length, Option, Some, None}
+use Rattle.std.specs.Prelude.{◌≡◌, ◌⊎◌, ◌<◌, ℕ, zero, suc, Bool, true, false, List, [], ◌∷◌, ◌++◌, length, Option, Some, None, slice_get}
 use Rattle.mo_scopes.specs.Scopes.{named}
 use Rattle.mo_types.specs.declared.node.Sort.TheVariants as sort
 use Rattle.mo_types.specs.declared.node.TypeId.{TypeId}
@@ -17,10 +17,10 @@ use Rattle.typing_rules.specs.AsyncPlaces.{Body}
 use Rattle.typing_rules.specs.Contexts.{Bound, Scope}
 use Rattle.typing_rules.specs.Definitions.{Definitions}
 use Rattle.typing_rules.specs.Terms.{Term}
-use Rattle.desugaring.specs.Frames.{Entry, Frame}
+use Rattle.desugaring.specs.Frames.{Entry, Frame, kept_at}
 use Rattle.desugaring.specs.Pieces.{Becomes, AStep, AFunction, AnExpression, Nothing, Piece, is_end}
 use Rattle.expression_laws.specs.Fitting.{StandsFor}
-use Rattle.list_laws.specs.Standing.{entry_names, StandsIn}
+use Rattle.list_laws.specs.Standing.{entry_names, NoneKept, StandsIn}
 
 -- what the rules of a list give for one of its declarations
 pub data Fact : Type 0 where
@@ -64,9 +64,14 @@ module _ (defs : Definitions) (slots : List Slot) (terms : List Term) (number : 
   abbrev pub Stands : Frame → Context → Bytes → Bound → Type 0
   Stands f c y b = StandsIn defs slots terms number vs body f.names c.names y b
 
+  -- what was kept of stable variables stands as before the list
+  abbrev pub StaysKept : Frame → Context → Type 0
+  StaysKept f c = (x : Bytes) → slice_get c.names (kept_at f x) ≡ slice_get c0.names (kept_at f0 x)
+
   -- around a part that uses these names, where this is bound
   pub record Around (uses : List Bytes) (scope : Scope) (f : Frame) (c : Context) : Type 0 where
     pub stand : (y : Bytes) → Among y uses → (b : Bound) → named scope y ≡ Some b → Stands f c y b
+    pub kept : StaysKept f c
     pub exits : f.exits ≡ f0.exits
     pub labels : c.labels ≡ c0.labels
     pub body_is : c.body ≡ c0.body
@@ -78,6 +83,7 @@ module _ (defs : Definitions) (slots : List Slot) (terms : List Term) (number : 
 
   pub record At (k n : ℕ) (f : Frame) (c : Context) : Type 0 where
     pub stand : (y : Bytes) → Reach k n y → (b : Bound) → named (scope_at n facts base) y ≡ Some b → Stands f c y b
+    pub kept : StaysKept f c
     pub exits : f.exits ≡ f0.exits
     pub labels : c.labels ≡ c0.labels
     pub body_is : c.body ≡ c0.body
@@ -86,6 +92,7 @@ module _ (defs : Definitions) (slots : List Slot) (terms : List Term) (number : 
   -- a declaration that is evaluated, with its names and what they stand for, and the names that it uses
   pub record StepFact (n : ℕ) (binds : List Entry) (step : Frame → Step) (xs : List Bytes) (s : Scope) : Type 0 where
     pub names : entry_names binds ≡ xs
+    pub none_kept : NoneKept binds
     pub uses : List Bytes
     pub there : (y : Bytes) → Among y uses → Reach (suc n) n y
     pub others : (y : Bytes) → (Among y xs → ⊥) → (u : Scope) → named (s ++ u) y ≡ named u y

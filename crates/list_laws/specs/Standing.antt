@@ -18,6 +18,13 @@ entry_names (Named x is_cell ∷ es) = x ∷ entry_names es
 entry_names (Kept x ∷ es) = entry_names es
 entry_names (Unnamed ∷ es) = entry_names es
 
+-- none of these is what was kept of a stable variable
+abbrev pub NoneKept : List Entry → Type 0
+NoneKept [] = Unit {0}
+NoneKept (Named x is_cell ∷ es) = NoneKept es
+NoneKept (Kept x ∷ es) = ⊥
+NoneKept (Unnamed ∷ es) = NoneKept es
+
 module _ (defs : Definitions) (slots : List Slot) (terms : List Term) (number : Term → TypeId) (vs : List ℕ) (body : Body) where
   abbrev pub StandsAt : Use → List (Want TypeId) → Bound → Type 0
   StandsAt u ns b = (w : Want TypeId) × (slice_get ns u.index ≡ Some w) × StandsFor defs slots terms number vs body b u.cell w

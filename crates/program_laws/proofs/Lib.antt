@@ -1,0 +1,4 @@
+pub mod Programs
+pub mod Around
+pub mod Standing
+pub mod Reached
