@@ -1,0 +1,7 @@
+use Rattle.std.proofs.Common.{[], ◌∷◌, refl, ap}
+use Rattle.mo_values.specs.declared.operation.Operation.TheVariants as op
+use Rattle.kernel_nodes.proofs.Rolling.{operates_on}
+use Rattle.kernel_nodes.proofs.data.tagged.Goals as goal
+
+pub returns : goal.returns
+returns c = operates_on c.args.types.now c.args.kind c.operate_on.result (op.MakeTag c.in_ok-label.label) (op.MakeTag c.args.name.now) (c.args.a ∷ []) (c.args.a ∷ []) (ap op.MakeTag c.in_ok-label.ensures) refl c.operate_on.ensures

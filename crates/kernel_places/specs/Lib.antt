@@ -1,0 +1,4 @@
+pub mod Reaching
+pub mod Similar
+pub mod Using
+pub mod Marking

@@ -1,0 +1,6 @@
+//! The principals of actor references.
+#![tactic(auto)]
+
+mod principals;
+
+pub use principals::principal;
