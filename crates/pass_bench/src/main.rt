@@ -6,29 +6,38 @@ mod programs;
 mod rounds;
 mod sizes;
 
+use crate::rounds::{Shape, measure};
 use std::{env, io};
 
 fn main(rt: HostRuntime) -> io::Result<()> {
     let mut words = env::args(&rt)?;
     let _ = words.next();
-    match words.next() {
-        Some(what) => by_name(&rt, what.as_str()),
-        None => usage(&rt),
+    let Some(what) = words.next() else {
+        return usage(&rt);
+    };
+    let Some(size) = words.next() else {
+        return usage(&rt);
+    };
+    match (shape(what.as_str()), size.parse::<u32>()) {
+        (Some(shape), Ok(nodes)) => measure(&rt, rt.alloc(), shape, nodes),
+        _ => usage(&rt),
     }
 }
 
-fn by_name(rt: &HostRuntime, what: &str) -> io::Result<()> {
+fn shape(what: &str) -> Option<Shape> {
     if what == "straight" {
-        rounds::straight(rt, rt.alloc())
+        Some(Shape::Straight)
     } else if what == "nested" {
-        rounds::nested(rt, rt.alloc())
+        Some(Shape::Nested(25))
+    } else if what == "deep" {
+        Some(Shape::Nested(250))
     } else if what == "closures" {
-        rounds::closures(rt, rt.alloc())
+        Some(Shape::Closures)
     } else {
-        usage(rt)
+        None
     }
 }
 
 fn usage(rt: &HostRuntime) -> io::Result<()> {
-    println!(rt; "usage: pass_bench straight, nested or closures")
+    println!(rt; "usage: pass_bench straight, nested, deep or closures, and how many nodes")
 }
