@@ -9,12 +9,13 @@ ghost use Rattle.judging.specs.Parts.{Sound};
 ghost use Rattle.order_rules.specs.declared.entries.MadeDeclaration.{MadeDeclaration as Made};
 ghost use Rattle.function_bodies.specs.Bodies.{any_made, body_in, judge_body as judged_body};
 
-use crate::promises::{async_term, body_of, method_sort};
+use crate::promises::body_of;
 use crate::taking::{Bodied, Called, with_context};
 use abstract_tree::{DeclarationForm, Expression};
 use abstract_types::{Pattern, PlacedName, Signature};
 use body_judging::judge_body;
 use judging::{Checker, Judged, Layer, Part};
+use object_types::{async_term, method_sort};
 use order_rules::MadeDeclaration;
 use signature_judging::copied_signature;
 use type_copies::copied_name;

@@ -4,4 +4,4 @@
 mod members;
 mod names;
 
-pub use members::{actor_type, object_type};
+pub use members::{actor_type, async_term, method_sort, object_type};

@@ -110,8 +110,8 @@ pub fn object_type(
     }
 }
 
-/// How a public function of an actor is called.
-fn method_sort(query: bool) -> Sort
+/// How a public function of an actor is called (Motoko language manual, section "Shared functions").
+pub fn method_sort(query: bool) -> Sort
     ensures { result ≡ method_sort query }
 {
     if query { Sort::Query } else { Sort::Shared }
@@ -128,7 +128,16 @@ fn promised(scope: &TypeScope, types: &mut Types, of: &TypeNode) -> Result<TermI
     }
 }
 
-fn async_term(scope: &TypeScope, types: &mut Types, of: &Option<TypeNode>) -> Result<TermId, Memory>
+/// What a public function with this result promises, which is () where none is written (Motoko language manual, section "Shared functions").
+///
+/// # Errors
+///
+/// `Memory` where memory lacks.
+pub fn async_term(
+    scope: &TypeScope,
+    types: &mut Types,
+    of: &Option<TypeNode>,
+) -> Result<TermId, Memory>
     requires { Kept types.old }
     ensures { IfOk result (Wrote types.old types.new (async_term (seen scope.now) (annotation of.now))) }
 {

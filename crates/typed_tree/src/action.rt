@@ -33,7 +33,6 @@ pub enum Member {
 
 /// What is done where the operands have their values. An operation gives a value or traps; the other actions make a function
 /// value, need the store, print, call, wait, or leave a construct.
-#[derive(Drop)]
 pub enum Action {
     Operate(Operation),
     /// The built-in function, which holds the operands.
@@ -59,4 +58,25 @@ pub enum Action {
     Break(u32),
     /// `a!`: the value of the option, or else it leaves with `null`, as many labels as `Break` does.
     Unwrap(u32),
+}
+
+// Written here, so that it is proved here, and not again in each crate that lets an expression go.
+impl Drop for Action {
+    fn drop(self) {
+        match self {
+            Action::Operate(_operation) => {}
+            Action::BuiltIn(_member) => {}
+            Action::New => {}
+            Action::Read => {}
+            Action::Write => {}
+            Action::WriteElement => {}
+            Action::Print => {}
+            Action::Throw => {}
+            Action::Call => {}
+            Action::Send(_parameters, _results) => {}
+            Action::Await => {}
+            Action::Break(_exits) => {}
+            Action::Unwrap(_exits) => {}
+        }
+    }
 }

@@ -9,7 +9,6 @@ use mo_values::Operation;
 
 /// An expression with its own type: that of its value, of what a cell holds, or that of a future.
 #[cycle(typed)]
-#[derive(Drop)]
 pub struct TypedExpression {
     pub of_type: TypeId,
     pub form: Node<Form>,
@@ -17,7 +16,6 @@ pub struct TypedExpression {
 
 /// The forms of expressions: Motoko language manual, section "Expressions". Derived forms are written out in these.
 #[cycle(typed)]
-#[derive(Drop)]
 pub enum Form {
     Constant(Literal),
     /// How many names stand between the use of a name and its own place, the nearest first.
@@ -49,7 +47,6 @@ pub enum Form {
 
 /// `case p a`
 #[cycle(typed)]
-#[derive(Drop)]
 pub struct Case {
     pub pattern: TypedPattern,
     pub body: TypedExpression,
@@ -57,7 +54,6 @@ pub struct Case {
 
 /// A declaration, or functions whose place is behind the one before: Motoko language manual, section "Declarations".
 #[cycle(typed)]
-#[derive(Drop)]
 pub enum Step {
     /// `let p = a`
     Let(TypedPattern, TypedExpression),
@@ -74,7 +70,6 @@ pub enum Step {
 /// A function, or a class, which is one that gives an object. In its body the names of its parameters are the nearest, then
 /// those of its group, and then those around the group.
 #[cycle(typed)]
-#[derive(Drop)]
 pub struct Function {
     /// How it is called.
     pub sort: Sort,
@@ -84,4 +79,72 @@ pub struct Function {
     pub nodes: u32,
     pub parameters: Items<TypedPattern>,
     pub body: TypedExpression,
+}
+
+// Written here, so that they are proved here, and not again in each crate that lets an expression go.
+impl Drop for TypedExpression {
+    #[cycle(typed_drop)]
+    fn drop(self) {
+        let TypedExpression {
+            of_type: _of_type,
+            form: _form,
+        } = self;
+    }
+}
+
+impl Drop for Form {
+    #[cycle(typed_drop)]
+    fn drop(self) {
+        match self {
+            Form::Constant(_literal) => {}
+            Form::Name(_index) => {}
+            Form::Do(_action, _operands) => {}
+            Form::If(_condition, _first_branch, _second_branch) => {}
+            Form::Switch(_token, _of, _cases) => {}
+            Form::While(_condition, _body) => {}
+            Form::Loop(_body) => {}
+            Form::Repeat(_body, _condition) => {}
+            Form::For(_pattern, _of, _body) => {}
+            Form::Label(_body) => {}
+            Form::Try(_body, _pattern, _handler) => {}
+            Form::Update(_operation, _place, _operand) => {}
+            Form::Block(_steps, _value) => {}
+        }
+    }
+}
+
+impl Drop for Case {
+    #[cycle(typed_drop)]
+    fn drop(self) {
+        let Case {
+            pattern: _pattern,
+            body: _body,
+        } = self;
+    }
+}
+
+impl Drop for Step {
+    #[cycle(typed_drop)]
+    fn drop(self) {
+        match self {
+            Step::Let(_pattern, _value) => {}
+            Step::Var(_value) => {}
+            Step::Stable(_index, _value) => {}
+            Step::Functions(_functions) => {}
+            Step::Evaluate(_value) => {}
+        }
+    }
+}
+
+impl Drop for Function {
+    #[cycle(typed_drop)]
+    fn drop(self) {
+        let Function {
+            sort: _sort,
+            type_parameters: _type_parameters,
+            nodes: _nodes,
+            parameters: _parameters,
+            body: _body,
+        } = self;
+    }
 }

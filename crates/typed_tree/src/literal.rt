@@ -3,7 +3,6 @@ use mo_num::{Bytes, Principal};
 
 /// A value that is written in a program: Motoko language manual, section "Literals". The kind of a number is that of the
 /// type of the node that it stands in.
-#[derive(Drop)]
 pub enum Literal {
     /// `()`
     Unit,
@@ -18,4 +17,20 @@ pub enum Literal {
     Blob(Bytes),
     /// `actor "id"`
     Actor(Principal),
+}
+
+// Written here, so that it is proved here, and not again in each crate that lets an expression go.
+impl Drop for Literal {
+    fn drop(self) {
+        match self {
+            Literal::Unit => {}
+            Literal::Null => {}
+            Literal::Flag(_flag) => {}
+            Literal::Number(_number) => {}
+            Literal::Character(_scalar) => {}
+            Literal::Text(_text) => {}
+            Literal::Blob(_bytes) => {}
+            Literal::Actor(_principal) => {}
+        }
+    }
 }

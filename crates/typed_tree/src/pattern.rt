@@ -7,7 +7,6 @@ use mo_types::TypeId;
 /// A pattern with the type that it stands on: Motoko language manual, section "Patterns". It matches values of that type
 /// and of those below it.
 #[cycle(pattern)]
-#[derive(Drop)]
 pub struct TypedPattern {
     pub of_type: TypeId,
     pub form: Node<PatternForm>,
@@ -15,7 +14,6 @@ pub struct TypedPattern {
 
 /// A pattern. The names of a pattern stand for values in the order in which they are written.
 #[cycle(pattern)]
-#[derive(Drop)]
 pub enum PatternForm {
     /// `_`
     Wildcard,
@@ -36,8 +34,44 @@ pub enum PatternForm {
 
 /// `x = p`
 #[cycle(pattern)]
-#[derive(Drop)]
 pub struct PatternField {
     pub label: Bytes,
     pub pattern: TypedPattern,
+}
+
+// Written here, so that they are proved here, and not again in each crate that lets a pattern go.
+impl Drop for TypedPattern {
+    #[cycle(pattern_drop)]
+    fn drop(self) {
+        let TypedPattern {
+            of_type: _of_type,
+            form: _form,
+        } = self;
+    }
+}
+
+impl Drop for PatternForm {
+    #[cycle(pattern_drop)]
+    fn drop(self) {
+        match self {
+            PatternForm::Wildcard => {}
+            PatternForm::Bind => {}
+            PatternForm::Constant(_literal) => {}
+            PatternForm::Present(_of) => {}
+            PatternForm::Tagged(_label, _of) => {}
+            PatternForm::Parts(_parts) => {}
+            PatternForm::Fields(_fields) => {}
+            PatternForm::Either(_first, _second) => {}
+        }
+    }
+}
+
+impl Drop for PatternField {
+    #[cycle(pattern_drop)]
+    fn drop(self) {
+        let PatternField {
+            label: _label,
+            pattern: _pattern,
+        } = self;
+    }
 }
