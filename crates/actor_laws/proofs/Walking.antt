@@ -37,6 +37,7 @@ use Rattle.block_laws.proofs.Keeping.{evaluated_names, Defined, differ_apart, di
 use Rattle.block_laws.proofs.Naming.{defined_named, facts_apart, functions_apart, facts_bound}
 use Rattle.block_laws.proofs.Walking.{not_bound}
 use Rattle.block_laws.proofs.Whole.{facts_are, all_bind_only, behind_all}
+use Rattle.method_laws.proofs.Entering.{among_split}
 use Rattle.actor_laws.specs.Order.{public_functions, outer_of, IsActorInOrder, ActorsAreWalked}
 
 -- the name of a public function
@@ -109,14 +110,6 @@ module _ (slots : List Slot) (number : Term → TypeId) (s : TypeScope) (all : L
     by (inr k) (inl v) next = differ_apart (names_of d) (names_of_list rest) h y (evaluated_of (declared b) d (first_scope given) y v) (functions_named rest y k)
     by (inr k) (inr v) next = next k v
 
-pub among_split : (xs ys : List Bytes) (y : Bytes) → Among y (xs ++ ys) → Among y xs ⊎ Among y ys
-among_split [] ys y m = inr m
-among_split (x ∷ xs) ys y (inl e) = inl (inl e)
-among_split (x ∷ xs) ys y (inr m) = by (among_split xs ys y m) where
-  by : Among y xs ⊎ Among y ys → Among y (x ∷ xs) ⊎ Among y ys
-  by (inl k) = inl (inr k)
-  by (inr k) = inr k
-
 module _ (defs : Definitions) (slots : List Slot) (terms : List Term) (number : Term → TypeId) (graph : IsGraphOf defs slots terms number) (e : Context) (own : List Bytes) (ds : Declarations ℕ) (f : Frame) (of_own : Want TypeId) (methods : List (Want TypeId))
     (stable : List StableVariable) (fit : Fits defs slots terms number e.types [] (directly Other e) f (around slots of_own methods stable)) (q : Term × Declarations Note) (m : ListMade defs slots terms number [] false e ds None q)
     (kept : AreKept defs slots terms number f (around slots of_own methods stable) ds m.given)
@@ -125,13 +118,13 @@ module _ (defs : Definitions) (slots : List Slot) (terms : List Term) (number : 
   abbrev c : typed.Context
   c = around slots of_own methods stable
 
-  abbrev all : List Declared
+  abbrev pub all : List Declared
   all = map (λ b. b.declared) (pieces defs number q.1)
 
-  abbrev facts : List Fact
+  abbrev pub facts : List Fact
   facts = facts_of slots number (with_list e.types ds) all ds q.1 m.given
 
-  inside : Fits defs slots terms number (with_list e.types ds) [] (directly Other (in_scope e ds)) f (around slots of_own methods stable)
+  pub inside : Fits defs slots terms number (with_list e.types ds) [] (directly Other (in_scope e ds)) f (around slots of_own methods stable)
   inside = record { names = λ x n b h. absurd n; labels = fit.labels; returns = fit.returns; options = fit.options; body_is = fit.body_is; types = m.fine; bounds = fit.bounds; scope_is = refl }
 
   made : AreMade defs slots terms number [] (directly Other (record (in_scope e ds) { values = scope_at (length facts) facts (in_scope e ds).values })) false (in_scope e ds) ds None m.given q.1
@@ -139,7 +132,7 @@ module _ (defs : Definitions) (slots : List Slot) (terms : List Term) (number : 
       subst (λ z. AreMade defs slots terms number [] (directly Other (record (in_scope e ds) { values = z })) false (in_scope e ds) ds None m.given q.1)
       (behind_all defs slots terms number [] (directly Other (record (in_scope e ds) { values = behind m.given (in_scope e ds).values })) false None (in_scope e ds) all (in_scope e ds).values ds m.given q.1 m.made) m.made
 
-  outside : (y : Bytes) → Among y (outer_of own ds) → Defined y facts → ⊥
+  pub outside : (y : Bytes) → Among y (outer_of own ds) → Defined y facts → ⊥
   outside y i n = by (among_split (without (names_of_list ds) (own ++ in_declarations ds)) (public_functions ds) y i) where
     by : Among y (without (names_of_list ds) (own ++ in_declarations ds)) ⊎ Among y (public_functions ds) → ⊥
     by (inl k) = not_bound (names_of_list ds) (own ++ in_declarations ds) y k (defined_named slots number (with_list e.types ds) all ds q.1 m.given y n)

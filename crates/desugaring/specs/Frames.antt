@@ -1,5 +1,6 @@
 -- What stands around an expression where it is written out: the names, the nearest first, and what can be left.
 use Rattle.std.specs.Prelude.{ℕ, zero, suc, Bool, true, false, List, [], ◌∷◌, ◌++◌, map, cond}
+use Rattle.std.specs.List.{list_any}
 use Rattle.std.specs.Str.{bytes_eq}
 use Rattle.typing_rules.specs.AbstractSyntax.{Bytes}
 
@@ -43,6 +44,14 @@ with_exit x f = record f { exits = x ∷ f.exits }
 -- the body of a function, with the names of its parameters
 abbrev pub in_function : List Bytes → Frame → Frame
 in_function xs f = record { names = map value xs ++ f.names; exits = Returned ∷ [] }
+
+-- a name that is hidden where it is among these
+abbrev pub hidden_by : List Bytes → Bytes → Entry
+hidden_by xs x = cond (list_any (λ y. bytes_eq x y) xs) Unnamed (value x)
+
+-- the body of a public function: the names of its context, which those of its parameters hide, stand before these
+abbrev pub in_method : List Bytes → List Bytes → Frame → Frame
+in_method context parameters f = record { names = map (hidden_by parameters) context ++ (map value parameters ++ f.names); exits = Returned ∷ [] }
 
 -- how many names stand between, and whether it is one of a cell
 pub record Use : Type 0 where

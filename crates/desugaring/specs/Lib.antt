@@ -8,3 +8,4 @@ pub mod Expressions
 pub mod Programs
 pub mod Rows
 pub mod FormRows
+pub mod NameRows

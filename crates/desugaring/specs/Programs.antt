@@ -20,14 +20,10 @@ use Rattle.typing_rules.specs.Heads.{results}
 use Rattle.typing_rules.specs.Nodes as counts
 use Rattle.typing_rules.specs.TypedTrees.{Note}
 use Rattle.desugaring.specs.FreeNames.{names_in, names_in_each}
-use Rattle.desugaring.specs.Frames.{Entry, Kept, Unnamed, value, Frame, with_entries, in_function, found}
+use Rattle.desugaring.specs.Frames.{Entry, Kept, Unnamed, value, hidden_by, Frame, with_entries, in_function, in_method, found}
 use Rattle.desugaring.specs.Patterns.{pattern, patterns}
 use Rattle.desugaring.specs.Pieces.{Arranged, arranged}
 use Rattle.desugaring.specs.Expressions.{tree, pieces}
-
-abbrev pub own_entry : Option Bytes → Entry
-own_entry None = Unnamed
-own_entry (Some x) = value x
 
 abbrev pub method_names : Declarations Note → List Bytes
 method_names p.End = []
@@ -39,10 +35,15 @@ stable_names p.End = []
 stable_names (p.Then public n (p.Var true x u a) rest) = x.bytes ∷ stable_names rest
 stable_names (p.Then public n _ rest) = stable_names rest
 
+-- the actor's own name, which a public function of the name hides
+abbrev pub own_entry : List Bytes → Option Bytes → Entry
+own_entry methods None = Unnamed
+own_entry methods (Some x) = hidden_by methods x
+
 -- around the declarations stand the actor, its public functions, and what was kept of its stable variables
 abbrev pub around : Program Note → Frame
 around program = record {
-  names = own_entry program.name ∷ map value (method_names program.fields) ++ map Kept (stable_names program.fields);
+  names = own_entry (method_names program.fields) program.name ∷ map value (method_names program.fields) ++ map Kept (stable_names program.fields);
   exits = [];
 }
 
@@ -86,14 +87,13 @@ module _ (defs : Definitions) (number : Term → TypeId) where
   context_pattern None = None
   context_pattern (Some q) = Some (pattern defs number q)
 
-  -- the names of the context stand before those of the parameters
   abbrev pub method_function : Frame → Bool → Option (Pattern Note) → Signature Note → Expression Note → Function
   method_function frame query context g body = roll-Function (record {
     sort = method_sort query;
     type_parameters = [];
     nodes = counts.in_context context + counts.in_patterns g.parameters + counts.in_expression body;
     parameters = patterns defs number g.parameters;
-    body = tree defs number (in_function (context_names context ++ names_in_each g.parameters) frame) body;
+    body = tree defs number (in_method (context_names context) (names_in_each g.parameters) frame) body;
   })
 
   abbrev pub methods_of : Frame → Declarations Note → List Method

@@ -4,4 +4,4 @@
 
 mod rows;
 
-pub use rows::{forms_are_written_out, the_counter_is_written_out};
+pub use rows::{forms_are_written_out, hidden_names_are_not_found, the_counter_is_written_out};

@@ -2,7 +2,6 @@
 use Rattle.std.proofs.Common.{◌≡◌, inl, inr, ℕ, Bool, true, false, List, [], ◌∷◌, ◌++◌, map, Option, Some, None, refl, sym, ap, ap₂, ◌∙◌, subst, arith}
 use Rattle.std.specs.Prelude.{codes}
 use Rattle.mo_types.specs.declared.node.Node.TheVariants as node
-use Rattle.mo_types.specs.declared.node.Sort.{Sort}
 use Rattle.mo_types.specs.declared.node.Sort.TheVariants as sort
 use Rattle.mo_types.specs.declared.node.TypeId.{TypeId}
 use Rattle.mo_types.specs.Graph.{Slot, head_at}
@@ -17,7 +16,7 @@ use Rattle.typed_tree.specs.OperationTypes.{Distinct}
 use Rattle.typed_tree.specs.PatternTypes.{AllStand}
 use Rattle.typed_tree.specs.Types.{IsLawfulNode}
 use Rattle.typed_tree.specs.Typing.{Typed}
-use Rattle.typed_tree.specs.Wants.{Want, Of, in_function}
+use Rattle.typed_tree.specs.Wants.{Of, in_function}
 use Rattle.typed_tree.specs.WellTyped.{IsContextType, ContextNames}
 use Rattle.typed_tree.proofs.Rules.{functions}
 use Rattle.typing_rules.specs.AbstractSyntax.{Bytes, Named, Pattern, Signature, Expression}
@@ -38,6 +37,7 @@ use Rattle.typing_rules.specs.Terms as t
 use Rattle.typing_rules.specs.TypedTrees.{Note, signature}
 use Rattle.desugaring.specs.Expressions.{tree as written_out}
 use Rattle.desugaring.specs.FreeNames.{names_in, names_in_each, occurring, without}
+use Rattle.desugaring.specs.Frames.{Frame}
 use Rattle.desugaring.specs.Frames as frames
 use Rattle.desugaring.specs.Patterns.{patterns}
 use Rattle.desugaring.specs.Programs.{method_sort, context_names, context_pattern}
@@ -48,7 +48,7 @@ use Rattle.desugaring_laws.specs.Names.{Names, bound_names, bound_in_each, enter
 use Rattle.desugaring_laws.specs.Scopes.{IsScopeFine, AreBoundsIn}
 use Rattle.desugaring_laws.specs.Yields.{Yields}
 use Rattle.desugaring_laws.proofs.Graph.{reflexive, head_there, parts_there, in_scope}
-use Rattle.desugaring_laws.proofs.Patterns.{patterns_are_typed, unit_fine, beside, each_append, map_append}
+use Rattle.desugaring_laws.proofs.Patterns.{patterns_are_typed, unit_fine}
 use Rattle.desugaring_laws.proofs.Scoping.{scoped_in, written_fine}
 use Rattle.desugaring_laws.proofs.Yielding.{more, part as after}
 use Rattle.expression_laws.specs.Fitting.{sort_of, Fits}
@@ -172,39 +172,37 @@ module _ (defs : Definitions) (slots : List Slot) (terms : List Term) (number : 
       abbrev Params : Taken → Type 0
       Params ps = (w : W) → ParametersTyped setting [] g.parameters ps
 
-      abbrev all : Scope × Option (Pattern Note) → Taken → Names
-      all c ps = context_bound c.1 ++ bound_in_each ps.patterns
-
-      all_same : (c : Scope × Option (Pattern Note)) → ContextTyped context c → (ps : Taken) → ParametersTyped setting [] g.parameters ps → names_of (all c ps) ≡ names_in_context context ++ names_in_each g.parameters
-      all_same c i ps k = map_append (λ z. z.0) (context_bound c.1) (bound_in_each ps.patterns) ∙ ap₂ (λ a b. a ++ b) i.same (sym (names_bound_in_each ps.patterns) ∙ k.same)
-
       abbrev E : Scope × Option (Pattern Note) → Taken → Context
       E c ps = rules.in_body (body_of query) (Some r) (ps.scope ++ c.0) e
 
       known_at : (w : W) → IsKnown defs terms w.context.parameters r
       known_at w = subst (λ vs. IsKnown defs terms vs r) (sym w.parameters) result_known
 
-      inside : (c : Scope × Option (Pattern Note)) → ContextTyped context c → (ps : Taken) → ParametersTyped setting [] g.parameters ps → (w : W)
-          → Fits defs slots terms number e.types (occurring body) (E c ps) (frames.in_function (names_of (all c ps)) w.frame) (Inner defs slots terms number e uses w (body_of query) r (known_at w) (wants number (all c ps)))
+      -- the names of the context, of which those that a parameter has are hidden, and of the parameters
+      abbrev F : Scope × Option (Pattern Note) → Taken → W → Frame
+      F c ps w = frames.in_method (names_of (context_bound c.1)) (names_of (bound_in_each ps.patterns)) w.frame
+
+      abbrev D : Scope × Option (Pattern Note) → Taken → W → typed.Context
+      D c ps w = Inner defs slots terms number e uses w (body_of query) r (known_at w) (wants number (context_bound c.1) ++ wants number (bound_in_each ps.patterns))
+
+      inside : (c : Scope × Option (Pattern Note)) → ContextTyped context c → (ps : Taken) → ParametersTyped setting [] g.parameters ps → (w : W) → Fits defs slots terms number e.types (occurring body) (E c ps) (F c ps w) (D c ps w)
       inside c i ps k w =
-          let xs = all c ps in
-          let same = all_same c i ps k in
-          subst (λ z. Fits defs slots terms number e.types (occurring body) (rules.in_body (body_of query) (Some r) z e) (frames.in_function (names_of xs) w.frame) (Inner defs slots terms number e uses w (body_of query) r (known_at w) (wants number xs)))
-          (sym (ap₂ (λ a b. a ++ b) k.scope_is i.scope_is ∙ beside (context_bound c.1) (bound_in_each ps.patterns)))
-          (body_fits defs slots terms number e uses w (body_of query) r (known_at w) xs (occurring body) (subst (λ ns. Distinct ns) (sym same) fine.distinct)
-          (subst (λ vs. Each (λ z. IsKnown defs terms vs z.1) xs) (sym w.parameters) (each_append (λ z. IsKnown defs terms [] z.1) (context_bound c.1) (bound_in_each ps.patterns) i.known k.known))
-          (λ y m. subst (λ z. Among y z) (sym uses_are) (subst (λ ns. Among y (without ns (occurring body))) same m)))
+          let cs = context_bound c.1 in
+          let qs = bound_in_each ps.patterns in
+          let same : names_of qs ≡ names_in_each g.parameters = sym (names_bound_in_each ps.patterns) ∙ k.same in
+          subst (λ z. Fits defs slots terms number e.types (occurring body) (rules.in_body (body_of query) (Some r) z e) (F c ps w) (D c ps w)) (sym (ap₂ (λ a b. a ++ b) k.scope_is i.scope_is))
+          (body_fits defs slots terms number e uses w (body_of query) r (known_at w) cs qs (occurring body) (subst (λ ns. Distinct ns) (sym i.same) fine.context_distinct) (subst (λ ns. Distinct ns) (sym same) fine.parameters.distinct)
+          (subst (λ vs. Each (λ z. IsKnown defs terms vs z.1) cs) (sym w.parameters) i.known) (subst (λ vs. Each (λ z. IsKnown defs terms vs z.1) qs) (sym w.parameters) k.known)
+          (λ y m. subst (λ z. Among y z) (sym uses_are) (subst (λ ns. Among y (without ns (occurring body))) (ap₂ (λ a b. a ++ b) i.same same) m)))
 
       abbrev BodyTyped : Scope × Option (Pattern Note) → Taken → p.Expression Note → Type 0
-      BodyTyped c ps b = (w : W) → Typed slots (written_out defs number (frames.in_function (names_of (all c ps)) w.frame) b) (Inner defs slots terms number e uses w (body_of query) r (known_at w) (wants number (all c ps))) (Of (number r))
+      BodyTyped c ps b = (w : W) → Typed slots (written_out defs number (F c ps w) b) (D c ps w) (Of (number r))
 
       body_typed : (c : Scope × Option (Pattern Note)) → ((w : W) → ContextTyped context c) → (ps : Taken) → Params ps → Yields defs terms (Judge defs (E c ps) body (Some r)) (BodyTyped c ps)
       body_typed c i ps k =
-          for_all defs terms (Judge defs (E c ps) body (Some r)) (λ (w : W) b. Typed slots (written_out defs number (frames.in_function (names_of (all c ps)) w.frame) b) (Inner defs slots terms number e uses w (body_of query) r (known_at w) (wants number (all c ps))) (Of (number r))) (λ w.
-          let f = frames.in_function (names_of (all c ps)) w.frame in
-          let d = Inner defs slots terms number e uses w (body_of query) r (known_at w) (wants number (all c ps)) in
-          more defs terms (Judge defs (E c ps) body (Some r)) (Becomes defs slots terms number Other [] f d (Some r)) (λ b. Typed slots (written_out defs number f b) d (Of (number r)))
-          (j (E c ps) f d (inside c (i w) ps (k w) w) (Some r) (known_at w).fine) (λ b h. as_wanted setting [] f d r b h))
+          for_all defs terms (Judge defs (E c ps) body (Some r)) (λ (w : W) b. Typed slots (written_out defs number (F c ps w) b) (D c ps w) (Of (number r))) (λ w.
+          more defs terms (Judge defs (E c ps) body (Some r)) (Becomes defs slots terms number Other [] (F c ps w) (D c ps w) (Some r)) (λ b. Typed slots (written_out defs number (F c ps w) b) (D c ps w) (Of (number r)))
+          (j (E c ps) (F c ps w) (D c ps w) (inside c (i w) ps (k w) w) (Some r) (known_at w).fine) (λ b h. as_wanted setting [] (F c ps w) (D c ps w) r b h))
 
       -- the function
       function_made : (c : Scope × Option (Pattern Note)) → ((w : W) → ContextTyped context c) → (ps : Taken) → Params ps → (b : p.Expression Note) → BodyTyped c ps b → (w : W)
@@ -212,13 +210,11 @@ module _ (defs : Definitions) (slots : List Slot) (terms : List Term) (number : 
       function_made c i ps k b h w =
           let cs = context_bound c.1 in
           let qs = bound_in_each ps.patterns in
-          let D : List (Want TypeId) → Sort → typed.Context = λ ns s. record { names = ns ++ map in_function w.context.names; labels = number r ∷ []; body = s; parameters = w.context.parameters } in
-          let names_are : names_of (all c ps) ≡ context_names c.1 ++ names_in_each ps.patterns =
-          map_append (λ z. z.0) cs qs ∙ ap₂ (λ a d. a ++ d) ((i w).same ∙ sym (named_context c (i w))) (sym (names_bound_in_each ps.patterns)) in
-          let made : Typed slots (written_out defs number (frames.in_function (context_names c.1 ++ names_in_each ps.patterns) w.frame) b) (D (wants number cs ++ wants number qs) (method_sort query)) (Of (number r)) =
-          subst (λ s. Typed slots (written_out defs number (frames.in_function (context_names c.1 ++ names_in_each ps.patterns) w.frame) b) (D (wants number cs ++ wants number qs) s) (Of (number r))) (sorts query)
-          (subst (λ ns. Typed slots (written_out defs number (frames.in_function (context_names c.1 ++ names_in_each ps.patterns) w.frame) b) (D ns (sort_of (body_of query))) (Of (number r))) (map_append (λ z. Of (number z.1)) cs qs)
-          (subst (λ ns. Typed slots (written_out defs number (frames.in_function ns w.frame) b) (D (wants number (all c ps)) (sort_of (body_of query))) (Of (number r))) names_are (h w))) in
+          let G = frames.in_method (context_names c.1) (names_in_each ps.patterns) w.frame in
+          let made : Typed slots (written_out defs number G b) (record { names = (wants number cs ++ wants number qs) ++ map in_function w.context.names; labels = number r ∷ []; body = method_sort query; parameters = w.context.parameters }) (Of (number r)) =
+          subst (λ s. Typed slots (written_out defs number G b) (record { names = (wants number cs ++ wants number qs) ++ map in_function w.context.names; labels = number r ∷ []; body = s; parameters = w.context.parameters }) (Of (number r))) (sorts query)
+          (subst (λ ns. Typed slots (written_out defs number (frames.in_method (context_names c.1) ns w.frame) b) (D c ps w) (Of (number r))) (sym (names_bound_in_each ps.patterns))
+          (subst (λ ns. Typed slots (written_out defs number (frames.in_method ns (names_of qs) w.frame) b) (D c ps w) (Of (number r))) (sym (named_context c.1)) (h w))) in
           record {
             names = wants number cs;
             result = number r;
@@ -233,15 +229,13 @@ module _ (defs : Definitions) (slots : List Slot) (terms : List Term) (number : 
                       (subst (λ us. AllStand slots [] (patterns defs number ps.patterns) (map number us) (wants number qs)) (sym (listed_back ps.types)) (k w).stand),
                   in_scope defs slots terms number graph w.context.parameters r (known_at w).there (known_at w).fine.scoped,
                   made,
-                  omega (arith, functions_are_covered defs number (frames.in_function (context_names c.1 ++ names_in_each ps.patterns) w.frame) ps.patterns b),
+                  omega (arith, functions_are_covered defs number G ps.patterns b),
                 );
           }
         where
-          named_context : (c : Scope × Option (Pattern Note)) → ContextTyped context c → context_names c.1 ≡ names_in_context context
-          named_context c i = by c.1 ∙ i.same where
-            by : (o : Option (Pattern Note)) → context_names o ≡ names_of (context_bound o)
-            by None = refl
-            by (Some q) = names_bound q
+          named_context : (o : Option (Pattern Note)) → context_names o ≡ names_of (context_bound o)
+          named_context None = refl
+          named_context (Some q) = names_bound q
 
       pub method_made : (n : ℕ) (made : List Made) → Yields defs terms (JudgeBody defs e n (p.Method query context x g body) made) (λ q. (q.1 ≡ made) × MethodMade defs slots terms number uses e query x (method_term e.types query g) q.0)
       method_made n made =
@@ -270,7 +264,7 @@ module _ (defs : Definitions) (slots : List Slot) (terms : List Term) (number : 
 
       system_fits : (w : W) → Fits defs slots terms number e.types (occurring body) S (frames.in_function [] w.frame) (C w)
       system_fits w =
-          body_fits defs slots terms number e uses w Local unit (unit_at w) [] (occurring body) tt tt (λ y m. subst (λ z. Among y z) (sym uses_are) (inside_none (occurring body) y m))
+          body_fits defs slots terms number e uses w Local unit (unit_at w) [] [] (occurring body) tt tt tt tt (λ y m. subst (λ z. Among y z) (sym uses_are) (inside_none (occurring body) y m))
         where
           inside_none : (ys : List Bytes) (y : Bytes) → Among y (without [] ys) → Among y ys
           inside_none [] y m = m

@@ -50,11 +50,11 @@ ContextIsWritten (Some q) = PatternIsWritten q
 abbrev pub method_uses : Option (Pattern ℕ) → Signature ℕ → Expression ℕ → List Bytes
 method_uses context g body = without (names_in_context context ++ names_in_each g.parameters) (occurring body)
 
--- what is asked of the source of a public function besides its body: its characters can be written, and the names of its context and parameters differ
+-- what is asked of the source of a public function besides its body: its characters can be written, the names of its context differ, and those of its parameters do
 pub record IsMethodFine (context : Option (Pattern ℕ)) (g : Signature ℕ) : Type 0 where
   pub context_written : ContextIsWritten context
   pub parameters : AreParametersFine g.parameters
-  pub distinct : Distinct (names_in_context context ++ names_in_each g.parameters)
+  pub context_distinct : Distinct (names_in_context context)
 
 module _ (defs : Definitions) (slots : List Slot) (terms : List Term) (number : Term → TypeId) where
   -- what is around a function behind the declarations of an actor, where no name that it uses is one of a future

@@ -18,7 +18,7 @@ use Rattle.typing_rules.specs.Terms.{Term}
 use Rattle.typing_rules.specs.TypedTrees.{Note}
 use Rattle.typing_rules.specs.TypeScopes.{TypeScope}
 use Rattle.desugaring.specs.Frames.{Entry, Named as Named_, Kept, Unnamed, kept_from}
-use Rattle.desugaring.specs.FreeNames.{names_of_list}
+use Rattle.desugaring.specs.FreeNames.{names_of_list, occurring}
 use Rattle.desugaring.specs.FreeNames as free
 use Rattle.desugaring.specs.Programs.{method_names, stable_names}
 use Rattle.desugaring_laws.specs.Laws.{wants}
@@ -28,15 +28,17 @@ use Rattle.expression_laws.proofs.Naming.{names_of}
 use Rattle.list_laws.proofs.Reaching.{unequal}
 use Rattle.block_laws.specs.Lists.{method_term}
 use Rattle.block_laws.proofs.Keeping.{differ_behind}
+use Rattle.method_laws.specs.Methods.{method_uses, MethodMade, SystemMade}
 use Rattle.actor_laws.specs.Actors.{IsBehind, AreBehind}
-use Rattle.program_laws.specs.Around.{method_wants, stables, functions_of}
+use Rattle.program_laws.specs.Around.{stable_sources, method_wants, stables, functions_of}
 
 apart : (stable : Bool) → stable ≡ true → stable ≡ false → ⊥
 apart stable h i = cc
 
--- neither a public function nor a stable variable
-abbrev IsPlain : {N : Type 0} → Declaration N → Type 0
+-- neither a public or system function nor a stable variable
+abbrev pub IsPlain : {N : Type 0} → Declaration N → Type 0
 IsPlain (p.Method query context x g body) = ⊥
+IsPlain (p.System x body) = ⊥
 IsPlain (p.Var true x u a) = ⊥
 IsPlain _ = Unit {0}
 
@@ -44,7 +46,8 @@ module _ (defs : Definitions) (slots : List Slot) (terms : List Term) (number : 
   -- what it becomes is of its own form
   module _ (C : Declaration ℕ → Given → Note → Declaration Note → Type 0)
       (method : (query : Bool) (context : Option (Pattern ℕ)) (x : Named) (g : Signature ℕ) (body : Expression ℕ) (one : Given) (l : Note) (query' : Bool) (context' : Option (Pattern Note)) (y : Named) (h : Signature Note) (b : Expression Note)
-      → y ≡ x → l.type ≡ method_term end.types query g → C (p.Method query context x g body) one l (p.Method query' context' y h b))
+      → MethodMade defs slots terms number (method_uses context g body) end query x (method_term end.types query g) (l, p.Method query' context' y h b) → C (p.Method query context x g body) one l (p.Method query' context' y h b))
+      (system : (x : Named) (body : Expression ℕ) (one : Given) (l : Note) (y : Named) (b : Expression Note) → SystemMade defs slots terms number (occurring body) end x (l, p.System y b) → C (p.System x body) one l (p.System y b))
       (stable : (x : Named) (u : Option TypeNode) (a : Expression ℕ) (one : Given) (l : Note) (y : Named) (v : Option TypeNode) (b : Expression Note) → y ≡ x → one.scope ≡ (x.bytes, variable l.type) ∷ [] → C (p.Var true x u a) one l (p.Var true y v b))
       (other : (d : Declaration ℕ) (one : Given) (l : Note) (b : Declaration Note) → IsPlain d → IsPlain b → C d one l b) where
     pub by_form : (d : Declaration ℕ) (one : Given) (l : Note) (b : Declaration Note) → IsBehind defs slots terms number end d one (l, b) → C d one l b
@@ -92,7 +95,7 @@ module _ (defs : Definitions) (slots : List Slot) (terms : List Term) (number : 
     by_form (p.Method query context x g body) one l (p.Var true x' u' a') h = absurd h
     by_form (p.Method query context x g body) one l (p.Var false x' u' a') h = absurd h
     by_form (p.Method query context x g body) one l (p.Func x' g' body') h = absurd h
-    by_form (p.Method query context x g body) one l (p.Method query' context' x' g' body') h = method query context x g body one l query' context' x' g' body' h.1 h.2
+    by_form (p.Method query context x g body) one l (p.Method query' context' x' g' body') h = method query context x g body one l query' context' x' g' body' h
     by_form (p.Method query context x g body) one l (p.System x' body') h = absurd h
     by_form (p.Method query context x g body) one l (p.TypeAlias x' ps' u') h = absurd h
     by_form (p.Method query context x g body) one l (p.Class x' g' fields') h = absurd h
@@ -103,7 +106,7 @@ module _ (defs : Definitions) (slots : List Slot) (terms : List Term) (number : 
     by_form (p.System x body) one l (p.Var false x' u' a') h = absurd h
     by_form (p.System x body) one l (p.Func x' g' body') h = absurd h
     by_form (p.System x body) one l (p.Method query' context' x' g' body') h = absurd h
-    by_form (p.System x body) one l (p.System x' body') h = other (p.System x body) one l (p.System x' body') tt tt
+    by_form (p.System x body) one l (p.System x' body') h = system x body one l x' body' h
     by_form (p.System x body) one l (p.TypeAlias x' ps' u') h = absurd h
     by_form (p.System x body) one l (p.Class x' g' fields') h = absurd h
     by_form (p.System x body) one l (p.NamedObject x' fields') h = absurd h
@@ -151,80 +154,74 @@ module _ (defs : Definitions) (slots : List Slot) (terms : List Term) (number : 
 
 -- ---- names of public functions and of stable variables
 
-skip_names : (public : Bool) (l : Note) (b : Declaration Note) (bs : Declarations Note) → IsPlain b → method_names (p.Then public l b bs) ≡ method_names bs
+pub skip_names : (public : Bool) (l : Note) (b : Declaration Note) (bs : Declarations Note) → IsPlain b → method_names (p.Then public l b bs) ≡ method_names bs
 skip_names public l (p.Let q a) bs h = refl
 skip_names public l (p.Var true x u a) bs h = absurd h
 skip_names public l (p.Var false x u a) bs h = refl
 skip_names public l (p.Func x g body) bs h = refl
 skip_names public l (p.Method query context x g body) bs h = absurd h
-skip_names public l (p.System x body) bs h = refl
+skip_names public l (p.System x body) bs h = absurd h
 skip_names public l (p.TypeAlias x ps u) bs h = refl
 skip_names public l (p.Class x g fields) bs h = refl
 skip_names public l (p.NamedObject x fields) bs h = refl
 skip_names public l (p.Evaluate a) bs h = refl
 
-skip_stable : (public : Bool) (l : Note) (b : Declaration Note) (bs : Declarations Note) → IsPlain b → stable_names (p.Then public l b bs) ≡ stable_names bs
+pub skip_stable : (public : Bool) (l : Note) (b : Declaration Note) (bs : Declarations Note) → IsPlain b → stable_names (p.Then public l b bs) ≡ stable_names bs
 skip_stable public l (p.Let q a) bs h = refl
 skip_stable public l (p.Var true x u a) bs h = absurd h
 skip_stable public l (p.Var false x u a) bs h = refl
 skip_stable public l (p.Func x g body) bs h = refl
 skip_stable public l (p.Method query context x g body) bs h = absurd h
-skip_stable public l (p.System x body) bs h = refl
+skip_stable public l (p.System x body) bs h = absurd h
 skip_stable public l (p.TypeAlias x ps u) bs h = refl
 skip_stable public l (p.Class x g fields) bs h = refl
 skip_stable public l (p.NamedObject x fields) bs h = refl
 skip_stable public l (p.Evaluate a) bs h = refl
 
 module _ (number : Term → TypeId) where
-  skip_wants : (public : Bool) (l : Note) (b : Declaration Note) (bs : Declarations Note) → IsPlain b → method_wants number (p.Then public l b bs) ≡ method_wants number bs
+  pub skip_wants : (public : Bool) (l : Note) (b : Declaration Note) (bs : Declarations Note) → IsPlain b → method_wants number (p.Then public l b bs) ≡ method_wants number bs
   skip_wants public l (p.Let q a) bs h = refl
   skip_wants public l (p.Var true x u a) bs h = absurd h
   skip_wants public l (p.Var false x u a) bs h = refl
   skip_wants public l (p.Func x g body) bs h = refl
   skip_wants public l (p.Method query context x g body) bs h = absurd h
-  skip_wants public l (p.System x body) bs h = refl
+  skip_wants public l (p.System x body) bs h = absurd h
   skip_wants public l (p.TypeAlias x ps u) bs h = refl
   skip_wants public l (p.Class x g fields) bs h = refl
   skip_wants public l (p.NamedObject x fields) bs h = refl
   skip_wants public l (p.Evaluate a) bs h = refl
 
-  skip_stables : (public : Bool) (l : Note) (b : Declaration Note) (bs : Declarations Note) → IsPlain b → stables number (p.Then public l b bs) ≡ stables number bs
+  pub skip_stables : (public : Bool) (l : Note) (b : Declaration Note) (bs : Declarations Note) → IsPlain b → stables number (p.Then public l b bs) ≡ stables number bs
   skip_stables public l (p.Let q a) bs h = refl
   skip_stables public l (p.Var true x u a) bs h = absurd h
   skip_stables public l (p.Var false x u a) bs h = refl
   skip_stables public l (p.Func x g body) bs h = refl
   skip_stables public l (p.Method query context x g body) bs h = absurd h
-  skip_stables public l (p.System x body) bs h = refl
+  skip_stables public l (p.System x body) bs h = absurd h
   skip_stables public l (p.TypeAlias x ps u) bs h = refl
   skip_stables public l (p.Class x g fields) bs h = refl
   skip_stables public l (p.NamedObject x fields) bs h = refl
   skip_stables public l (p.Evaluate a) bs h = refl
 
-skip_functions : (s : TypeScope) (public : Bool) (n : ℕ) (d : Declaration ℕ) (ds : Declarations ℕ) → IsPlain d → functions_of s (p.Then public n d ds) ≡ functions_of s ds
+pub skip_functions : (s : TypeScope) (public : Bool) (n : ℕ) (d : Declaration ℕ) (ds : Declarations ℕ) → IsPlain d → functions_of s (p.Then public n d ds) ≡ functions_of s ds
 skip_functions s public n (p.Let q a) ds h = refl
 skip_functions s public n (p.Var true x u a) ds h = absurd h
 skip_functions s public n (p.Var false x u a) ds h = refl
 skip_functions s public n (p.Func x g body) ds h = refl
 skip_functions s public n (p.Method query context x g body) ds h = absurd h
-skip_functions s public n (p.System x body) ds h = refl
+skip_functions s public n (p.System x body) ds h = absurd h
 skip_functions s public n (p.TypeAlias x ps u) ds h = refl
 skip_functions s public n (p.Class x g fields) ds h = refl
 skip_functions s public n (p.NamedObject x fields) ds h = refl
 skip_functions s public n (p.Evaluate a) ds h = refl
 
--- the names of stable variables in the source
-abbrev sources : Declarations ℕ → List Bytes
-sources p.End = []
-sources (p.Then public n (p.Var true x u a) rest) = x.bytes ∷ sources rest
-sources (p.Then public n _ rest) = sources rest
-
-skip_sources : (public : Bool) (n : ℕ) (d : Declaration ℕ) (ds : Declarations ℕ) → IsPlain d → sources (p.Then public n d ds) ≡ sources ds
+pub skip_sources : (public : Bool) (n : ℕ) (d : Declaration ℕ) (ds : Declarations ℕ) → IsPlain d → stable_sources (p.Then public n d ds) ≡ stable_sources ds
 skip_sources public n (p.Let q a) ds h = refl
 skip_sources public n (p.Var true x u a) ds h = absurd h
 skip_sources public n (p.Var false x u a) ds h = refl
 skip_sources public n (p.Func x g body) ds h = refl
 skip_sources public n (p.Method query context x g body) ds h = absurd h
-skip_sources public n (p.System x body) ds h = refl
+skip_sources public n (p.System x body) ds h = absurd h
 skip_sources public n (p.TypeAlias x ps u) ds h = refl
 skip_sources public n (p.Class x g fields) ds h = refl
 skip_sources public n (p.NamedObject x fields) ds h = refl
@@ -234,10 +231,10 @@ abbrev first_type : Term → Scope → Term
 first_type u [] = u
 first_type u (z ∷ zs) = z.1.type
 
-abbrev one_variable : Named → Term → Scope
+abbrev pub one_variable : Named → Term → Scope
 one_variable x u = (x.bytes, variable u) ∷ []
 
-same_type : (x : Named) (u v : Term) → one_variable x u ≡ one_variable x v → u ≡ v
+pub same_type : (x : Named) (u v : Term) → one_variable x u ≡ one_variable x v → u ≡ v
 same_type x u v h = ap (first_type u) h
 
 module _ (defs : Definitions) (slots : List Slot) (terms : List Term) (number : Term → TypeId) (end : Context) where
@@ -245,19 +242,20 @@ module _ (defs : Definitions) (slots : List Slot) (terms : List Term) (number : 
     pub names : method_names made ≡ names_of (functions_of end.types ds)
     pub wanted : method_wants number made ≡ wants number (functions_of end.types ds)
     pub kept : stable_names made ≡ map (λ z. z.0) (stables number made)
-    pub from : map (λ z. z.0) (stables number made) ≡ sources ds
+    pub from : map (λ z. z.0) (stables number made) ≡ stable_sources ds
 
   abbrev Step : Declaration ℕ → Given → Note → Declaration Note → Type 0
   Step d one l b = (public public_too : Bool) (n : ℕ) (ds : Declarations ℕ) (bs : Declarations Note) → AreAround ds bs → AreAround (p.Then public n d ds) (p.Then public_too l b bs)
 
   one_around : (d : Declaration ℕ) (one : Given) (l : Note) (b : Declaration Note) → IsBehind defs slots terms number end d one (l, b) → Step d one l b
   one_around = by_form defs slots terms number end Step
-      (λ query context x g body one l query' context' y h b e t. λ public public_too n ds bs i. record {
-        names = ap₂ (λ z zs. z ∷ zs) (ap (λ z. z.bytes) e) i.names;
-        wanted = ap₂ (λ z zs. Of (number z) ∷ zs) t i.wanted;
+      (λ query context x g body one l query' context' y h b i'. λ public public_too n ds bs i. record {
+        names = ap₂ (λ z zs. z ∷ zs) (ap (λ z. z.bytes) i'.1) i.names;
+        wanted = ap₂ (λ z zs. Of (number z) ∷ zs) i'.2 i.wanted;
         kept = i.kept;
         from = i.from;
       })
+      (λ x body one l y b i'. λ public public_too n ds bs i. record { names = i.names; wanted = i.wanted; kept = i.kept; from = i.from })
       (λ x u a one l y v b e t. λ public public_too n ds bs i. record {
         names = i.names;
         wanted = i.wanted;
@@ -294,7 +292,7 @@ module _ (defs : Definitions) (slots : List Slot) (terms : List Term) (number : 
   plain_among ys (p.Var false x u a) one h = tt
   plain_among ys (p.Func x g body) one h = tt
   plain_among ys (p.Method query context x g body) one h = absurd h
-  plain_among ys (p.System x body) one h = tt
+  plain_among ys (p.System x body) one h = absurd h
   plain_among ys (p.TypeAlias x ps u) one h = tt
   plain_among ys (p.Class x g fields) one h = tt
   plain_among ys (p.NamedObject x fields) one h = tt
@@ -305,7 +303,8 @@ module _ (defs : Definitions) (slots : List Slot) (terms : List Term) (number : 
 
   one_among : (d : Declaration ℕ) (one : Given) (l : Note) (b : Declaration Note) → IsBehind defs slots terms number end d one (l, b) → Stands d one l b
   one_among = by_form defs slots terms number end Stands
-      (λ query context x g body one l query' context' y h b e t. λ ys public bs f. (tt, f))
+      (λ query context x g body one l query' context' y h b i. λ ys public bs f. (tt, f))
+      (λ x body one l y b i. λ ys public bs f. (tt, f))
       (λ x u a one l y v b e t. λ ys public bs f. (
         (λ w i. subst (λ z. Among (x.bytes, number z) ys) (same_type x l.type w (sym t ∙ i)) (subst (λ z. Among (z, number l.type) ys) (ap (λ z. z.bytes) e) (f (y.bytes, number l.type) (inl refl)))),
         (λ z k. f z (inr k)),
@@ -356,7 +355,7 @@ kept_there (y ∷ ys) d x u (inr m) =
 
 -- ---- stable variables differ, as all names do
 
-source_named : (ds : Declarations ℕ) (y : Bytes) → Among y (sources ds) → Among y (names_of_list ds)
+pub source_named : (ds : Declarations ℕ) (y : Bytes) → Among y (stable_sources ds) → Among y (names_of_list ds)
 source_named p.End y m = absurd m
 source_named (p.Then public n (p.Let q a) rest) y m = in_right (free.names_of {N = ℕ} (p.Let q a)) (names_of_list rest) y (source_named rest y m)
 source_named (p.Then public n (p.Var true x u a) rest) y (inl e) = inl e
@@ -374,10 +373,10 @@ pub each_source : (x : Bytes) (ys zs : List Bytes) → Each (λ i. x ≢ i) zs �
 each_source x [] zs h f = tt
 each_source x (y ∷ ys) zs h f = (among_each (λ i. x ≢ i) zs y h (f y (inl refl)), each_source x ys zs h (λ z m. f z (inr m)))
 
-pub sources_differ : (ds : Declarations ℕ) → Distinct (names_of_list ds) → Distinct (sources ds)
+pub sources_differ : (ds : Declarations ℕ) → Distinct (names_of_list ds) → Distinct (stable_sources ds)
 sources_differ p.End h = tt
 sources_differ (p.Then public n (p.Let q a) rest) h = sources_differ rest (differ_behind (free.names_of {N = ℕ} (p.Let q a)) (names_of_list rest) h)
-sources_differ (p.Then public n (p.Var true x u a) rest) h = (each_source x.bytes (sources rest) (names_of_list rest) h.0 (source_named rest), sources_differ rest h.1)
+sources_differ (p.Then public n (p.Var true x u a) rest) h = (each_source x.bytes (stable_sources rest) (names_of_list rest) h.0 (source_named rest), sources_differ rest h.1)
 sources_differ (p.Then public n (p.Var false x u a) rest) h = sources_differ rest (differ_behind (free.names_of {N = ℕ} (p.Var false x u a)) (names_of_list rest) h)
 sources_differ (p.Then public n (p.Func x g body) rest) h = sources_differ rest (differ_behind (free.names_of {N = ℕ} (p.Func x g body)) (names_of_list rest) h)
 sources_differ (p.Then public n (p.Method query context x g body) rest) h = sources_differ rest (differ_behind (free.names_of {N = ℕ} (p.Method query context x g body)) (names_of_list rest) h)

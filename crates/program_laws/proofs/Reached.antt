@@ -34,11 +34,12 @@ use Rattle.block_laws.proofs.Keeping.{evaluated_names, Defined, AllBindOnly, kep
 use Rattle.block_laws.proofs.Naming.{skip_signed}
 use Rattle.block_laws.proofs.Whole.{all_bind_only, behind_all}
 use Rattle.block_forms.proofs.Whole.{many_facts}
+use Rattle.method_laws.proofs.Entering.{among_split}
 use Rattle.actor_laws.specs.Order.{public_functions, outer_of}
-use Rattle.actor_laws.proofs.Walking.{among_split}
 use Rattle.program_laws.specs.Around.{own_names, NamesAreReached}
 
-decided : (y : Bytes) (xs : List Bytes) → Among y xs ⊎ (Among y xs → ⊥)
+-- whether a name is one of these
+pub decided : (y : Bytes) (xs : List Bytes) → Among y xs ⊎ (Among y xs → ⊥)
 decided y [] = inr (λ m. m)
 decided y (x ∷ xs) = by (bytes_eq x y) refl (decided y xs) where
   by : (b : Bool) → bytes_eq x y ≡ b → Among y xs ⊎ (Among y xs → ⊥) → Among y (x ∷ xs) ⊎ (Among y (x ∷ xs) → ⊥)

@@ -1,7 +1,8 @@
 -- The names around the declarations of a program stand for their types.
-use Rattle.std.proofs.Common.{◌≡◌, ◌⊎◌, inl, inr, ℕ, zero, suc, Bool, true, false, List, [], ◌∷◌, ◌++◌, length, map, Option, Some, None, refl, sym, ap, ap₂, ◌∙◌, subst}
+use Rattle.std.proofs.Common.{◌≡◌, ◌⊎◌, inl, inr, ℕ, zero, suc, Bool, true, false, not, List, [], ◌∷◌, ◌++◌, length, map, Option, Some, None, refl, sym, ap, ap₂, ◌∙◌, subst, append_assoc}
 use Rattle.std.proofs.lemmas.Slice.Eq.{bytes_eq-Decides}
 use Rattle.std.specs.Prelude.{cond, slice_get}
+use Rattle.std.specs.List.{list_any}
 use Rattle.std.specs.Str.{bytes_eq}
 use Rattle.mo_scopes.specs.Scopes.{named}
 use Rattle.mo_types.specs.declared.node.Node.TheVariants as node
@@ -13,7 +14,7 @@ use Rattle.typed_tree.specs.declared.program.Program.{Program as TypedProgram}
 use Rattle.typed_tree.specs.ActionTypes as typed
 use Rattle.typed_tree.specs.OperationTypes.{Distinct}
 use Rattle.typed_tree.specs.Wants.{Want, Of, KeptOf}
-use Rattle.typed_tree.specs.WellTyped.{AllDeclare, around}
+use Rattle.typed_tree.specs.WellTyped.{around}
 use Rattle.typing_rules.specs.AbstractSyntax.{Bytes, Declarations, Program}
 use Rattle.typing_rules.specs.AbstractSyntax as p
 use Rattle.typing_rules.specs.AsyncPlaces.{Local, Other}
@@ -28,7 +29,7 @@ use Rattle.typing_rules.specs.Terms.{Term, Fields, listed_fields}
 use Rattle.typing_rules.specs.Terms as t
 use Rattle.typing_rules.specs.TypedTrees.{Note}
 use Rattle.typing_rules.specs.TypeScopes.{TypeScope, no_types}
-use Rattle.desugaring.specs.Frames.{Entry, Named, Kept, value, Frame, found_from, kept_from, kept_at}
+use Rattle.desugaring.specs.Frames.{Entry, Kept, Unnamed, value, Frame, found_from, kept_from, kept_at}
 use Rattle.desugaring.specs.FreeNames.{names_of_list, in_declarations, without}
 use Rattle.desugaring.specs.FreeNames as free
 use Rattle.desugaring.specs.Expressions.{pieces}
@@ -43,27 +44,28 @@ use Rattle.desugaring_laws.proofs.Patterns.{entered_on}
 use Rattle.expression_laws.specs.Fitting.{AValue, Fits}
 use Rattle.expression_laws.proofs.Heads.{made_fine}
 use Rattle.expression_laws.proofs.Naming.{names_of, names_stand}
+use Rattle.expression_laws.proofs.Outside.{outside}
+use Rattle.list_laws.specs.Facts.{At}
+use Rattle.list_laws.specs.Laws.{Walked}
 use Rattle.list_laws.specs.Standing.{entry_names, NoneKept, StandsAt, StandsIn}
 use Rattle.list_laws.proofs.Reaching.{stands_beyond, kept_beyond}
 use Rattle.block_forms.proofs.Written.{entered_named, name_among}
 use Rattle.block_laws.specs.Lists.{method_term, signed_one, signed, AreSigned, AreKept, in_scope, behind}
+use Rattle.block_laws.specs.Order.{facts_of}
 use Rattle.block_laws.proofs.Naming.{skip_signed}
 use Rattle.block_laws.proofs.Keeping.{differ_apart, differ_behind}
 use Rattle.block_laws.proofs.Walking.{not_bound}
+use Rattle.method_laws.proofs.Entering.{among_split, hidden_apart}
 use Rattle.actor_laws.specs.Actors.{ActorMade}
 use Rattle.actor_laws.specs.Order.{public_functions, outer_of, IsActorInOrder}
-use Rattle.actor_laws.proofs.Walking.{among_split, functions_named, walked}
+use Rattle.actor_laws.proofs.Walking.{functions_named, walked}
 use Rattle.program_laws.specs.Around.{functions_of, method_wants, stables, own_names, own_want, ProgramsAreWalked}
 use Rattle.program_laws.proofs.Around.{AreAround, all_around, AllAmongStables, each_among, kept_there, each_source, sources_differ}
 use Rattle.program_laws.proofs.Programs.{no_types_fine, no_bounds}
 
 -- ---- public functions
 
-append_assoc : {A : Type 0} (xs ys zs : List A) → (xs ++ ys) ++ zs ≡ xs ++ (ys ++ zs)
-append_assoc [] ys zs = refl
-append_assoc (x ∷ xs) ys zs = ap (λ l. x ∷ l) (append_assoc xs ys zs)
-
-public_named : (s : TypeScope) (ds : Declarations ℕ) → public_functions ds ≡ names_of (functions_of s ds)
+pub public_named : (s : TypeScope) (ds : Declarations ℕ) → public_functions ds ≡ names_of (functions_of s ds)
 public_named s p.End = refl
 public_named s (p.Then public n (p.Let q a) rest) = public_named s rest
 public_named s (p.Then public n (p.Var true x u a) rest) = public_named s rest
@@ -76,7 +78,7 @@ public_named s (p.Then public n (p.Class x g fields) rest) = public_named s rest
 public_named s (p.Then public n (p.NamedObject x fields) rest) = public_named s rest
 public_named s (p.Then public n (p.Evaluate a) rest) = public_named s rest
 
-functions_differ : (ds : Declarations ℕ) → Distinct (names_of_list ds) → Distinct (public_functions ds)
+pub functions_differ : (ds : Declarations ℕ) → Distinct (names_of_list ds) → Distinct (public_functions ds)
 functions_differ p.End h = tt
 functions_differ (p.Then public n (p.Let q a) rest) h = functions_differ rest (differ_behind (free.names_of {N = ℕ} (p.Let q a)) (names_of_list rest) h)
 functions_differ (p.Then public n (p.Var true x u a) rest) h = functions_differ rest (differ_behind (free.names_of {N = ℕ} (p.Var true x u a)) (names_of_list rest) h)
@@ -137,7 +139,7 @@ module _ (defs : Definitions) (terms : List Term) (s : TypeScope) where
   part_known (p.Then public n (p.NamedObject x fields) rest) k v m = part_known rest k.1 v m
   part_known (p.Then public n (p.Evaluate a) rest) k v m = part_known rest k.1 v m
 
-actor_head : (defs : Definitions) (fs : Fields) → head defs (t.Actor fs) ≡ node.Actor (listed_fields fs)
+pub actor_head : (defs : Definitions) (fs : Fields) → head defs (t.Actor fs) ≡ node.Actor (listed_fields fs)
 unfolding head
 actor_head defs fs = refl
 
@@ -169,9 +171,12 @@ none_kept : (xs : Names) → NoneKept (map value (names_of xs))
 none_kept [] = tt
 none_kept (x ∷ xs) = none_kept xs
 
-own_unkept : (o : Option Bytes) (es : List Entry) → NoneKept es → NoneKept (own_entry o ∷ es)
-own_unkept None es h = h
-own_unkept (Some x) es h = h
+own_unkept : (methods : List Bytes) (o : Option Bytes) (es : List Entry) → NoneKept es → NoneKept (own_entry methods o ∷ es)
+own_unkept methods None es h = h
+own_unkept methods (Some x) es h = by (list_any (λ z. bytes_eq x z) methods) where
+  by : (b : Bool) → NoneKept (cond b Unnamed (value x) ∷ es)
+  by true = h
+  by false = h
 
 as_many : (number : Term → TypeId) (xs : Names) → length (wants number xs) ≡ length (map value (names_of xs))
 as_many number [] = refl
@@ -193,27 +198,38 @@ not_so : false ≡ true → ⊥
 not_so h = cc
 
 module _ (defs : Definitions) (slots : List Slot) (terms : List Term) (number : Term → TypeId) where
-  -- the actor itself
-  own_stands : (o : Option Bytes) (u : Term) → ((x : Bytes) → o ≡ Some x → IsKnown defs terms [] u) → (es : List Entry) (ns : List (Want TypeId)) (y : Bytes) (b : Bound) → named (own_name o u) y ≡ Some b
-      → StandsIn defs slots terms number [] Local (own_entry o ∷ es) (own_want o (number u) ∷ ns) y b
-  own_stands None u k es ns y b h = absurd (no_bound b h)
-  own_stands (Some x) u k es ns y b h = by (bytes_eq y x) refl h where
-    by : (t : Bool) → bytes_eq y x ≡ t → cond t (Some (constant u)) None ≡ Some b → StandsIn defs slots terms number [] Local (Named x false ∷ es) (Of (number u) ∷ ns) y b
+  -- the actor itself, where no public function has this name
+  own_stands : (methods : List Bytes) (o : Option Bytes) (u : Term) → ((x : Bytes) → o ≡ Some x → IsKnown defs terms [] u) → (es : List Entry) (ns : List (Want TypeId)) (y : Bytes) (b : Bound) → (Among y methods → ⊥) → named (own_name o u) y ≡ Some b
+      → StandsIn defs slots terms number [] Local (own_entry methods o ∷ es) (own_want o (number u) ∷ ns) y b
+  own_stands methods None u k es ns y b n h = absurd (no_bound b h)
+  own_stands methods (Some x) u k es ns y b n h = by (bytes_eq y x) refl h where
+    shown : y ≡ x → own_entry methods (Some x) ≡ value x
+    shown e = on (outside methods (x ∷ []) x (inl refl)) where
+      not_there : (b : Bool) → Among x (cond (not b) (x ∷ []) []) → cond b Unnamed (value x) ≡ value x
+      not_there true m = absurd m
+      not_there false m = refl
+
+      on : Among x methods ⊎ Among x (without methods (x ∷ [])) → own_entry methods (Some x) ≡ value x
+      on (inl m) = absurd (n (subst (λ z. Among z methods) (sym e) m))
+      on (inr m) = not_there (list_any (λ z. bytes_eq x z) methods) m
+
+    by : (t : Bool) → bytes_eq y x ≡ t → cond t (Some (constant u)) None ≡ Some b → StandsIn defs slots terms number [] Local (own_entry methods (Some x) ∷ es) (Of (number u) ∷ ns) y b
     by false i h = absurd (no_bound b h)
     by true i h =
-        subst (λ z. StandsAt defs slots terms number [] Local z (Of (number u) ∷ ns) b) (sym (ap (λ t. cond t (record { index = zero; cell = false }) (found_from 1 es y)) ((bytes_eq-Decides x y).1 (sym ((bytes_eq-Decides y x).0 i)))))
-        (subst (λ z. StandsAt defs slots terms number [] Local (record { index = zero; cell = false }) (Of (number u) ∷ ns) z) (same_constant u b h) (Of (number u), refl, AValue refl refl refl (k x refl) refl))
+        let e : y ≡ x = (bytes_eq-Decides y x).0 i in
+        subst (λ z. StandsIn defs slots terms number [] Local (z ∷ es) (Of (number u) ∷ ns) y b) (sym (shown e))
+        (subst (λ z. StandsAt defs slots terms number [] Local z (Of (number u) ∷ ns) b) (sym (ap (λ t. cond t (record { index = zero; cell = false }) (found_from 1 es y)) ((bytes_eq-Decides x y).1 (sym e))))
+        (subst (λ z. StandsAt defs slots terms number [] Local (record { index = zero; cell = false }) (Of (number u) ∷ ns) z) (same_constant u b h) (Of (number u), refl, AValue refl refl refl (k x refl) refl)))
 
   -- a public function behind it
-  own_apart : (o : Option Bytes) (y : Bytes) → ((x : Bytes) → o ≡ Some x → x ≡ y → ⊥) → Among y (entry_names (own_entry o ∷ [])) → ⊥
-  own_apart None y h m = m
-  own_apart (Some x) y h (inl e) = h x refl e
-  own_apart (Some x) y h (inr m) = m
+  own_apart : (methods : List Bytes) (o : Option Bytes) (y : Bytes) → Among y methods → Among y (entry_names (own_entry methods o ∷ [])) → ⊥
+  own_apart methods None y h m = m
+  own_apart methods (Some x) y h m = hidden_apart methods (x ∷ []) y h m
 
-  function_stands : (o : Option Bytes) (w : Want TypeId) (xs : Names) → Distinct (names_of xs) → Each (λ z. IsKnown defs terms [] z.1) xs → (es : List Entry) (ns : List (Want TypeId)) (y : Bytes) (u : Term) → Among (y, u) xs → ((x : Bytes) → o ≡ Some x → x ≡ y → ⊥)
-      → StandsIn defs slots terms number [] Local (own_entry o ∷ (map value (names_of xs) ++ es)) (w ∷ (wants number xs ++ ns)) y (constant u)
-  function_stands o w xs d k es ns y u m h =
-      stands_beyond defs slots terms number [] Local (own_entry o ∷ []) (map value (names_of xs) ++ es) (w ∷ []) (wants number xs ++ ns) y (constant u) (own_apart o y h) refl
+  function_stands : (o : Option Bytes) (w : Want TypeId) (xs : Names) → Distinct (names_of xs) → Each (λ z. IsKnown defs terms [] z.1) xs → (es : List Entry) (ns : List (Want TypeId)) (y : Bytes) (u : Term) → Among (y, u) xs
+      → StandsIn defs slots terms number [] Local (own_entry (names_of xs) o ∷ (map value (names_of xs) ++ es)) (w ∷ (wants number xs ++ ns)) y (constant u)
+  function_stands o w xs d k es ns y u m =
+      stands_beyond defs slots terms number [] Local (own_entry (names_of xs) o ∷ []) (map value (names_of xs) ++ es) (w ∷ []) (wants number xs ++ ns) y (constant u) (own_apart (names_of xs) o y (name_among (y, u) xs m)) refl
       (names_stand defs slots terms number [] Local [] xs d k [] es ns (λ z n. absurd n) y (inl (name_among (y, u) xs m)) (constant u) (ap (λ z. named z y) (entered_on xs []) ∙ entered_named xs [] (y, u) d m))
 
   abbrev Gets : Frame → typed.Context → List (Bytes × TypeId) → Type 0
@@ -245,7 +261,7 @@ module _ (defs : Definitions) (slots : List Slot) (terms : List Term) (number : 
 -- ---- the program
 
 module _ (program : Program ℕ) (slots : List Slot) (terms : List Term) (number : Term → TypeId) (graph : IsGraphOf (gathered program) slots terms number) (there : (x : Bytes) → program.name ≡ Some x → Among (actor_type program) terms)
-    (name_apart : (x : Bytes) → program.name ≡ Some x → Among x (public_functions program.fields) → ⊥) (q : Term × Declarations Note) (m : ActorMade (gathered program) slots terms number (first_context program) program.fields q)
+    (q : Term × Declarations Note) (m : ActorMade (gathered program) slots terms number (first_context program) program.fields q)
     (o : IsActorInOrder (gathered program) slots number (with_list no_types program.fields) (own_names program.name) program.fields q.1) where
   abbrev defs : Definitions
   defs = gathered program
@@ -256,7 +272,7 @@ module _ (program : Program ℕ) (slots : List Slot) (terms : List Term) (number
   abbrev s : TypeScope
   s = with_list no_types program.fields
 
-  abbrev e : Context
+  abbrev pub e : Context
   e = first_context program
 
   abbrev end : Context
@@ -268,16 +284,16 @@ module _ (program : Program ℕ) (slots : List Slot) (terms : List Term) (number
   abbrev ys : List (Bytes × TypeId)
   ys = stables number q.1
 
-  abbrev P : TypedProgram
+  abbrev pub P : TypedProgram
   P = desugared (gathered program) number slots (made_program program q.1)
 
-  abbrev f : Frame
+  abbrev pub f : Frame
   f = written.around (made_program program q.1)
 
-  abbrev own : Want TypeId
+  abbrev pub own : Want TypeId
   own = own_want program.name (number (actor_type program))
 
-  abbrev c : typed.Context
+  abbrev pub c : typed.Context
   c = around slots own (method_wants number q.1) P.stable
 
   around_made : AreAround defs slots terms number end ds q.1
@@ -296,13 +312,13 @@ module _ (program : Program ℕ) (slots : List Slot) (terms : List Term) (number
   stables_distinct = subst (λ zs. Distinct zs) (sym around_made.from) (sources_differ ds o.differ)
 
   abbrev E : List Entry
-  E = own_entry program.name ∷ (map value (names_of xs) ++ map (λ z. Kept z.0) ys)
+  E = own_entry (names_of xs) program.name ∷ (map value (names_of xs) ++ map (λ z. Kept z.0) ys)
 
   abbrev W : List (Want TypeId)
   W = own ∷ (wants number xs ++ map (λ z. KeptOf z.1) ys)
 
   entries_are : E ≡ f.names
-  entries_are = ap₂ (λ a b. own_entry program.name ∷ (map value a ++ b)) (sym around_made.names) (sym (kept_mapped ys) ∙ ap (λ zs. map Kept zs) (sym around_made.kept))
+  entries_are = ap₂ (λ a b. own_entry a program.name ∷ (map value a ++ b)) (sym around_made.names) (sym (kept_mapped ys) ∙ ap (λ zs. map Kept zs) (sym around_made.kept))
 
   wants_are : W ≡ c.names
   wants_are = ap₂ (λ a b. own ∷ (a ++ b)) (sym around_made.wanted) (sym (stable_wanted defs number (arranged false (pieces defs number q.1) f).frame q.1))
@@ -311,28 +327,28 @@ module _ (program : Program ℕ) (slots : List Slot) (terms : List Term) (number
   stand_in y i b h = by (among_split (without (names_of_list ds) (own_names program.name ++ in_declarations ds)) (public_functions ds) y i) where
     by : Among y (without (names_of_list ds) (own_names program.name ++ in_declarations ds)) ⊎ Among y (public_functions ds) → StandsIn defs slots terms number [] Local E W y b
     by (inl k) =
-        own_stands defs slots terms number program.name (actor_type program) actor_known (map value (names_of xs) ++ map (λ z. Kept z.0) ys) (wants number xs ++ map (λ z. KeptOf z.1) ys) y b
-        (sym (skip_signed s ds y (not_bound (names_of_list ds) (own_names program.name ++ in_declarations ds) y k) e.values) ∙ h)
+        let out = not_bound (names_of_list ds) (own_names program.name ++ in_declarations ds) y k in
+        own_stands defs slots terms number (names_of xs) program.name (actor_type program) actor_known (map value (names_of xs) ++ map (λ z. Kept z.0) ys) (wants number xs ++ map (λ z. KeptOf z.1) ys) y b
+        (λ n. out (functions_named ds y (subst (λ zs. Among y zs) (sym (public_named s ds)) n))) (sym (skip_signed s ds y out e.values) ∙ h)
     by (inr k) =
         let r = type_of_name xs y (subst (λ zs. Among y zs) (public_named s ds) k) in
         subst (λ z. StandsIn defs slots terms number [] Local E W y z) (same_constant r.0 b (sym (signed_function s ds o.differ (y, r.0) r.1 e.values) ∙ h))
-        (function_stands defs slots terms number program.name own xs functions_distinct (functions_known defs terms s ds m.list.known) (map (λ z. Kept z.0) ys) (map (λ z. KeptOf z.1) ys) y r.0 r.1
-        (λ x g e'. name_apart x g (subst (λ z. Among z (public_functions ds)) (sym e') k)))
+        (function_stands defs slots terms number program.name own xs functions_distinct (functions_known defs terms s ds m.list.known) (map (λ z. Kept z.0) ys) (map (λ z. KeptOf z.1) ys) y r.0 r.1)
 
-  stand : (y : Bytes) → Among y (outer_of (own_names program.name) ds) → (b : Bound) → named (in_scope e ds).values y ≡ Some b → StandsIn defs slots terms number [] Local f.names c.names y b
+  pub stand : (y : Bytes) → Among y (outer_of (own_names program.name) ds) → (b : Bound) → named (in_scope e ds).values y ≡ Some b → StandsIn defs slots terms number [] Local f.names c.names y b
   stand y i b h = subst (λ zs. StandsIn defs slots terms number [] Local f.names zs y b) wants_are (subst (λ zs. StandsIn defs slots terms number [] Local zs W y b) entries_are (stand_in y i b h))
 
   gets : Gets defs slots terms number f c ys
   gets x v n =
       subst (λ zs. slice_get zs (kept_at f x) ≡ Some (KeptOf v)) wants_are
       (subst (λ zs. slice_get W (kept_from zero zs x) ≡ Some (KeptOf v)) entries_are
-      (kept_beyond (own_entry program.name ∷ map value (names_of xs)) (map (λ z. Kept z.0) ys) (own ∷ wants number xs) (map (λ z. KeptOf z.1) ys) x (own_unkept program.name (map value (names_of xs)) (none_kept xs)) (ap suc (as_many number xs))
+      (kept_beyond (own_entry (names_of xs) program.name ∷ map value (names_of xs)) (map (λ z. Kept z.0) ys) (own ∷ wants number xs) (map (λ z. KeptOf z.1) ys) x (own_unkept (names_of xs) program.name (map value (names_of xs)) (none_kept xs)) (ap suc (as_many number xs))
       ∙ kept_there ys stables_distinct x v n))
 
-  kept : AreKept defs slots terms number f c ds m.list.given
+  pub kept : AreKept defs slots terms number f c ds m.list.given
   kept = all_kept defs slots terms number end f c ys gets ds m.list.given (each_among defs slots terms number end ds m.list.given q.1 m.behind_list)
 
-  fit : Fits defs slots terms number e.types [] (directly Other e) f c
+  pub fit : Fits defs slots terms number e.types [] (directly Other e) f c
   fit = record {
     names = λ x n b h. absurd n;
     labels = λ x l h. absurd (no_label l h);
@@ -344,10 +360,9 @@ module _ (program : Program ℕ) (slots : List Slot) (terms : List Term) (number
     scope_is = refl;
   }
 
-  pub declared : (d : typed.Context) × AllDeclare slots c P.declarations d
-  declared =
-      let w = walked defs slots terms number graph e (own_names program.name) ds f own (method_wants number q.1) P.stable fit q m.list kept stand o in
-      (w.end, w.declared)
+  pub walk : Walked slots (pieces defs number q.1)
+      (At defs slots terms number Local (in_scope e ds).values f c (outer_of (own_names program.name) ds) (facts_of slots number s (map (λ b. b.declared) (pieces defs number q.1)) ds q.1 m.list.given)) (Of (number q.0)) (arranged false (pieces defs number q.1) f) c
+  walk = walked defs slots terms number graph e (own_names program.name) ds f own (method_wants number q.1) P.stable fit q m.list kept stand o
 
 pub programs_are_walked : ProgramsAreWalked
-programs_are_walked program slots terms number graph there name_apart q m o = declared program slots terms number graph there name_apart q m o
+programs_are_walked program slots terms number graph there q m o = let w = walk program slots terms number graph there q m o in (w.end, w.declared)

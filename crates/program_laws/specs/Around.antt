@@ -23,13 +23,19 @@ use Rattle.desugaring_laws.specs.Names.{Names}
 use Rattle.block_laws.specs.Lists.{method_term, in_scope, behind}
 use Rattle.block_laws.specs.Order.{Reaches, facts_of}
 use Rattle.actor_laws.specs.Actors.{ActorMade}
-use Rattle.actor_laws.specs.Order.{public_functions, outer_of, IsActorInOrder}
+use Rattle.actor_laws.specs.Order.{outer_of, IsActorInOrder}
 
 -- the public functions of a list with their types
 abbrev pub functions_of : TypeScope → Declarations ℕ → Names
 functions_of s p.End = []
 functions_of s (p.Then public n (p.Method query context x g body) rest) = (x.bytes, method_term s query g) ∷ functions_of s rest
 functions_of s (p.Then public n _ rest) = functions_of s rest
+
+-- the names of its stable variables
+abbrev pub stable_sources : Declarations ℕ → List Bytes
+stable_sources p.End = []
+stable_sources (p.Then public n (p.Var true x u a) rest) = x.bytes ∷ stable_sources rest
+stable_sources (p.Then public n _ rest) = stable_sources rest
 
 module _ (number : Term → TypeId) where
   -- what the names of public functions stand for
@@ -54,12 +60,12 @@ abbrev pub own_want : Option Bytes → TypeId → Want TypeId
 own_want None t = Anything
 own_want (Some x) t = Of t
 
--- The declarations of a program, as they are written out, are typed one after the other: behind the actor, whose type is in the graph, its public functions, whose
--- names are not the actor's, and what was kept of its stable variables.
+-- The declarations of a program, as they are written out, are typed one after the other: behind the actor, whose type is in the graph, its public functions, and
+-- what was kept of its stable variables.
 abbrev pub ProgramsAreWalked : Type 0
 ProgramsAreWalked =
     (program : Program ℕ) (slots : List Slot) (terms : List Term) (number : Term → TypeId) → IsGraphOf (gathered program) slots terms number → ((x : Bytes) → program.name ≡ Some x → Among (actor_type program) terms)
-    → ((x : Bytes) → program.name ≡ Some x → Among x (public_functions program.fields) → ⊥) → (q : Term × Declarations Note) → ActorMade (gathered program) slots terms number (first_context program) program.fields q
+    → (q : Term × Declarations Note) → ActorMade (gathered program) slots terms number (first_context program) program.fields q
     → IsActorInOrder (gathered program) slots number (with_list no_types program.fields) (own_names program.name) program.fields q.1
     → let p = desugared (gathered program) number slots (made_program program q.1) in
     (end : typed.Context) × AllDeclare slots (around slots (own_want program.name (number (actor_type program))) (method_wants number q.1) p.stable) p.declarations end
