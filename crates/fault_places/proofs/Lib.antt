@@ -1,0 +1,11 @@
+pub mod Failing
+pub mod Types
+pub mod Patterns
+pub mod Forms
+pub mod Expressions
+pub mod WrittenTypes
+pub mod WrittenPatterns
+pub mod WrittenExpressions
+pub mod WrittenPrograms
+pub mod Faults
+pub mod Rows
