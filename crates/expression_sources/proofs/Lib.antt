@@ -1,0 +1,5 @@
+pub mod ExpressionNames
+pub mod Covers
+pub mod Parts
+pub mod Expressions
+pub mod Programs

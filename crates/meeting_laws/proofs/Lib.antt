@@ -1,0 +1,10 @@
+pub mod Basics
+pub mod Parts
+pub mod Standing
+pub mod Signing
+pub mod Operating
+pub mod Calling
+pub mod Listing
+pub mod Wanting
+pub mod Judging
+pub mod Programs

@@ -1,0 +1,5 @@
+pub mod Meeting
+pub mod Putting
+pub mod Unfolding
+pub mod Reached
+pub mod Written
