@@ -1,6 +1,6 @@
-mod Having
-mod Reached
-mod Placed
+pub mod Having
+pub mod Reached
+pub mod Placed
 mod Noting
 mod Marked
 mod Closed

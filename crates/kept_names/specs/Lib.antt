@@ -1,0 +1,3 @@
+pub mod Plain
+pub mod Keeping
+pub mod Laws

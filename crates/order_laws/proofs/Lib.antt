@@ -1,0 +1,3 @@
+pub mod Made
+mod Placing
+pub mod Orders
