@@ -1,0 +1,5 @@
+pub mod Sharing
+pub mod Place
+pub mod Plain
+pub mod Cells
+pub mod AtEnd
