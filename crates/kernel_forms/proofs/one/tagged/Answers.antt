@@ -1,0 +1,10 @@
+use Rattle.std.proofs.Common.{[], ◌∷◌, ap}
+use Rattle.typed_tree.specs.declared.expression.TypedExpression.{TypedExpression}
+use Rattle.kernel_nodes.proofs.Rolling.{if_same}
+use Rattle.kernel_parts.specs.Views.{tree_of}
+use Rattle.mo_values.specs.declared.operation.Operation.TheVariants as op
+use Rattle.kernel_nodes.specs.Made.{operates_at}
+use Rattle.kernel_forms.proofs.one.tagged.Goals as goal
+
+pub returns-clause-made : goal.returns-clause-made
+returns-clause-made g c = if_same c.tagged.result (operates_at c.args.layer.now.types.now c.args.note.kind (op.MakeTag c.args.name.now) (c.in_ok-part.part ∷ [])) (operates_at c.args.layer.now.types.now c.args.note.kind (op.MakeTag c.args.name.now) ((tree_of c.args.layer.now.types.now c.args.frames.now c.args.a.now) ∷ [])) (ap (λ (z : TypedExpression). operates_at c.args.layer.now.types.now c.args.note.kind (op.MakeTag c.args.name.now) (z ∷ [])) c.in_ok-part.ensures.made) c.tagged.ensures

@@ -1,0 +1,5 @@
+mod Around
+mod Adding
+mod Found
+mod Same
+mod Typed

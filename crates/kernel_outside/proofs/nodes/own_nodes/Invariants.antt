@@ -1,0 +1,8 @@
+use Rattle.std.proofs.Common.{◌≡◌, ◌+◌, drop}
+use Rattle.desugaring.specs.Programs as programs
+use Rattle.judged_parts.specs.Parts.{See}
+use Rattle.kernel_roles.specs.Roles.{list_seen}
+use Rattle.kernel_outside.proofs.nodes.own_nodes.Given as goal
+
+abbrev pub invariant-loop-one : goal.invariant-loop-one
+invariant-loop-one l = (see : See) → l.nodes + programs.own_nodes_of (list_seen see (drop l.one-index l.fields)) ≡ programs.own_nodes_of (list_seen see l.fields)

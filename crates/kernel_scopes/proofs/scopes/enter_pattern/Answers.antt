@@ -1,0 +1,11 @@
+use Rattle.std.proofs.Common.{◌∙◌, List, ℕ, ◌++◌, ap}
+use Rattle.value_scopes.specs.Values.{noted}
+use Rattle.met_types.specs.States.{State}
+use Rattle.desugaring.specs.Frames.{with_names}
+use Rattle.kernel_scopes.specs.Bound.{names_of}
+use Rattle.kernel_scopes.proofs.scopes.enter_pattern.Goals as goal
+
+pub returns-clause-pushed : goal.returns-clause-pushed
+returns-clause-pushed c = λ (s : State).
+    c.in_ok-push_names.ensures
+    ∙ ap (λ (l : List (List ℕ)). with_names l c.args.frames.now) (c.as_slice.ensures ∙ (c.in_ok-pattern_names.ensures (noted s.forms) ∙ ap (λ (l : List (List ℕ)). l ++ names_of s c.args.q.now) c.new-names.ensures))
