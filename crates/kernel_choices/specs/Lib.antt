@@ -1,0 +1,2 @@
+pub mod Whens
+pub mod Cells
