@@ -9,19 +9,19 @@ use Rattle.typing_rules.specs.AbstractPrograms.{abstract}
 use Rattle.typing_rules.specs.AbstractSyntax.{Program}
 use Rattle.typing_rules.specs.Gathered.{gathered}
 use Rattle.typing_rules.specs.Nodes.{nodes}
-use Rattle.typing_rules.specs.Programs.{JudgeFieldsOf, JudgeProgram}
+use Rattle.typing_rules.specs.Programs.{JudgeFieldsOf, JudgeProgram, basics, own_types}
 use Rattle.fault_places.specs.Laws.{FaultsAreAtTokens, FaultsAreInPrograms, FaultsStartInTexts}
 use Rattle.fault_places.specs.Numbers.{ProgramBelow}
 use Rattle.fault_places.proofs.Expressions.{judge_order, judge_bodies}
-use Rattle.fault_places.proofs.Failing.{FailsBelow, gives, meets, part, tests, fault_below}
+use Rattle.fault_places.proofs.Failing.{FailsBelow, gives, meets_each, part, tests, fault_below}
 use Rattle.fault_places.proofs.Forms.{listed}
 use Rattle.fault_places.proofs.WrittenPrograms.{tokens_of}
 
 fields_of : (n : ℕ) (program : Program ℕ) → 0 < n → ProgramBelow n program → FailsBelow n (JudgeFieldsOf program)
 fields_of n program z h =
-    meets n _ _ (part n _ _ (listed n (gathered program) _ program.fields _ _ h
+    meets_each n basics _ (part n _ _ (listed n (gathered program) _ program.fields _ _ h
     (λ known. judge_order n z (gathered program) known 0 false program.fields z h None None) (λ known made. judge_bodies n z (gathered program) known program.fields h made))
-    (λ q. gives n _))
+    (λ q. meets_each n (own_types program) _ (gives n _)))
 
 program_of : (n : ℕ) (program : Program ℕ) → 0 < n → ProgramBelow n program → FailsBelow n (JudgeProgram program)
 program_of n program z h = tests n _ 0 (nat_le (nodes program) 50000) _ z (fields_of n program z h)

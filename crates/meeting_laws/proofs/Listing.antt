@@ -186,7 +186,7 @@ module _ (defs : Definitions) where
   HasRun s ds run = Plain defs run.type × IsContextFine defs run.known × (run.known.types ≡ s) × AreOrdered s ds
 
   abbrev pub HasListed : TypeScope → Declarations ℕ → Term × Declarations Note → Type 0
-  HasListed s ds q = Plain defs q.0 × ArePartsProper defs (in_list s ds) × FieldsAreProper defs (member_fields s ds)
+  HasListed s ds q = Plain defs q.0 × ArePartsProper defs (in_list s ds) × FieldsAreProper defs (member_fields s ds) × AreSigned defs s ds
 
   pub listed : (e : Context) (ds : Declarations ℕ) → AreSource ds → (AreSigned defs (with_list e.types ds) ds → IsContextFine defs e) → (order : Context → Judgement Run) (bodies : Context → List Made → Judgement (Declarations Note))
       → ((names : Scope) → IsScopeFine defs names → IsContextFine defs e → Meeting defs (order (with_values names (with_types (with_list e.types ds) e))) (HasRun (with_list e.types ds) ds))
@@ -198,4 +198,4 @@ module _ (defs : Definitions) where
       after defs (Signatures defs s ds) _ _ (HasListed s ds) (signatures defs s ds h) (λ names j.
       after defs (order (with_values names (with_types s e))) _ _ (HasListed s ds) (f names j.0 (fine j.1)) (λ run k.
       after defs (bodies run.known run.made) _ _ (HasListed s ds) (g run.known run.made k.1 (subst (λ c. AreSigned defs c ds) (sym k.2) j.1)) (λ made l.
-      (k.0, list_parts s ds i j.1 k.3 (subst (λ c. AreBodied c ds) k.2 l), members_are s ds j.1 k.3)))))
+      (k.0, list_parts s ds i j.1 k.3 (subst (λ c. AreBodied c ds) k.2 l), members_are s ds j.1 k.3, j.1)))))

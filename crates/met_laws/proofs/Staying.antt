@@ -8,17 +8,19 @@ use Rattle.mo_subtype.specs.Questions.{questions}
 use Rattle.subtype_laws.specs.Reached.{Among}
 use Rattle.typing_rules.specs.declared.condition.Condition.{Condition}
 use Rattle.typing_rules.specs.declared.condition.Condition.TheVariants as condition
-use Rattle.typing_rules.specs.AbstractSyntax.{Program, TypeParameter}
+use Rattle.typing_rules.specs.AbstractSyntax.{Declarations, Program, TypeParameter}
 use Rattle.typing_rules.specs.Answers.{Fault, Answer, answer, fault, Comes}
 use Rattle.typing_rules.specs.Definitions.{Definitions}
 use Rattle.typing_rules.specs.Gathered.{gathered}
 use Rattle.typing_rules.specs.Heads.{head, members_head}
-use Rattle.typing_rules.specs.Judgements.{Judgement, Gives, Fails, Asks, Meets, Tests}
+use Rattle.typing_rules.specs.Expressions.{JudgeOrder, JudgeBodies}
+use Rattle.typing_rules.specs.Lists.{Listed}
+use Rattle.typing_rules.specs.Judgements.{Judgement, Gives, Fails, Asks, Meets, MeetsEach, Part, Tests}
 use Rattle.typing_rules.specs.Nodes.{nodes}
 use Rattle.typing_rules.specs.Parted.{Parted}
-use Rattle.typing_rules.specs.Programs.{JudgeFieldsOf, JudgeProgram}
+use Rattle.typing_rules.specs.Programs.{Checks, JudgeFieldsOf, JudgeProgram, basics, first_context, made_program, own_types}
 use Rattle.typing_rules.specs.Rows.{IsAnswer, accepted}
-use Rattle.typing_rules.specs.Terms.{Term, unit, Any}
+use Rattle.typing_rules.specs.Terms.{Term, Any}
 use Rattle.typing_rules.specs.Terms as t
 use Rattle.typing_rules.specs.TypedTrees.{Note}
 use Rattle.typing_rules.specs.TypeScopes.{TypeScope}
@@ -29,7 +31,7 @@ use Rattle.typing_rules.proofs.Confirmed.{all_answered, came}
 use Rattle.typing_rules.proofs.Evaluated.{comes}
 use Rattle.typing_rules.proofs.OneAnswer.{one}
 use Rattle.typing_rules.proofs.Parts.{part_to}
-use Rattle.met_laws.specs.Laws.{ParametersAreTypes, UnitIsAType, UnusedIsAType, unused}
+use Rattle.met_laws.specs.Laws.{BasicsAreTypes, OwnTypesAreTypes, ParametersAreTypes, UnusedIsAType, unused}
 
 apart : {A : Type 0} (a : A) (f : Fault) (ts us : List Term) → answer (Ok a) ts ≡ answer (Err f) us → ⊥
 apart a f ts us e = let h : Ok a ≡ Err f = ap (λ z. z.is) e in cc
@@ -65,10 +67,40 @@ module _ (defs : Definitions) {A : Type 0} where
   is_met : (u : Term) (j : Judgement A) (a : A) (met now : List Term) → Comes defs (Meets u j) met (answer (Ok a) now) → Among u now
   is_met u j a met now h = stays j a (met ++ u ∷ []) now (met_then u j a met now h) u (among_last u met)
 
-pub unit_is_met : UnitIsAType
-unit_is_met program made c =
-    let h = tested (gathered program) condition.TooManyNodes 0 (nat_le (nodes program) 50000) (JudgeFieldsOf program) made [] c.met c.by in
-    (is_met (gathered program) unit _ made [] c.met h, tt)
+  -- and of several types
+  each_then : (us : List Term) (j : Judgement A) (a : A) (met now : List Term) → Comes defs (MeetsEach us j) met (answer (Ok a) now) → Each (λ u. Among u now) us × ((later : List Term) × Comes defs j later (answer (Ok a) now))
+  each_then [] j a met now h = (tt, (met, h))
+  each_then (u ∷ us) j a met now h =
+      let r = each_then us j a (met ++ u ∷ []) now (met_then u (MeetsEach us j) a met now h) in
+      ((is_met u (MeetsEach us j) a met now h, r.0), r.1)
+
+-- what the list of a program's fields is judged to be
+abbrev list_of_fields : Program ℕ → Judgement (Term × Declarations Note)
+list_of_fields program =
+    Listed (gathered program) (first_context program) program.fields
+    (λ known. JudgeOrder (gathered program) known 0 false program.fields None None) (λ known made. JudgeBodies (gathered program) known program.fields made)
+
+module _ (program : Program ℕ) (made : Program Note) (c : Checks program (Ok made)) where
+  abbrev Behind : Term × Declarations Note → Judgement (Program Note)
+  Behind q = MeetsEach (own_types program) (Gives (made_program program q.1))
+
+  whole_met : Each (λ u. Among u c.met) basics × ((later : List Term) × Comes (gathered program) (Part (list_of_fields program) Behind) later (answer (Ok made) c.met))
+  whole_met =
+      let h = tested (gathered program) condition.TooManyNodes 0 (nat_le (nodes program) 50000) (JudgeFieldsOf program) made [] c.met c.by in
+      each_then (gathered program) basics _ made [] c.met h
+
+  behind_met : Parted (gathered program) (list_of_fields program) Behind whole_met.1.0 (answer (Ok made) c.met) → Each (λ u. Among u c.met) (own_types program)
+  behind_met (inl x) = (each_then (gathered program) (own_types program) (Gives (made_program program x.0.1)) made x.1 c.met x.3).0
+  behind_met (inr x) = let e : Ok made ≡ Err x.0 = x.2 in cc
+
+  own_met : Each (λ u. Among u c.met) (own_types program)
+  own_met = behind_met (part_to (gathered program) Behind (list_of_fields program) whole_met.1.0 (answer (Ok made) c.met) whole_met.1.1)
+
+pub basics_are_met : BasicsAreTypes
+basics_are_met program made c = (whole_met program made c).0
+
+pub own_are_met : OwnTypesAreTypes
+own_are_met program made c = own_met program made c
 
 module _ (defs : Definitions) (s : TypeScope) where
   abbrev rest_of : TypeParameter → List TypeParameter → Term → Judgement (Unit {0})
@@ -100,11 +132,11 @@ comes_so : Comes (gathered unused) (JudgeProgram unused) [] (came unused)
 unfolding head members_head questions chars is_utf8 layout lib.Utf8.encode
 comes_so = comes (ask (gathered unused)) (gathered unused) (says (gathered unused)) (JudgeProgram unused) [] refl (few_are (gathered unused) fuel (came unused).met refl)
 
-met_there : Each (λ u. Among u (came unused).met) (unit ∷ t.Parameter 5 ∷ [])
+met_there : Each (λ u. Among u (came unused).met) (t.Parameter 5 ∷ [])
 unfolding head members_head questions chars is_utf8 layout lib.Utf8.encode
-met_there = (inl refl, (inr (inl refl), tt))
+met_there = (inr (inr (inr (inl refl))), tt)
 
 pub unused_is_met : UnusedIsAType
 unused_is_met made c =
-    subst (λ (z : Answer (Program Note)). Each (λ u. Among u z.met) (unit ∷ t.Parameter 5 ∷ []))
+    subst (λ (z : Answer (Program Note)). Each (λ u. Among u z.met) (t.Parameter 5 ∷ []))
     (one (gathered unused) (JudgeProgram unused) [] (came unused) (answer (Ok made) c.met) comes_so c.by) met_there

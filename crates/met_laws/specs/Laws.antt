@@ -6,9 +6,9 @@ use Rattle.typing_rules.specs.AbstractSyntax.{Program, TypeParameter}
 use Rattle.typing_rules.specs.AbstractSyntax as p
 use Rattle.typing_rules.specs.Answers.{answer, Comes}
 use Rattle.typing_rules.specs.Definitions.{Definitions}
-use Rattle.typing_rules.specs.Programs.{Checks}
+use Rattle.typing_rules.specs.Programs.{Checks, basics, own_types}
 use Rattle.typing_rules.specs.Rows.{actor, token}
-use Rattle.typing_rules.specs.Terms.{Term, unit}
+use Rattle.typing_rules.specs.Terms.{Term}
 use Rattle.typing_rules.specs.Terms as t
 use Rattle.typing_rules.specs.TypedTrees.{Note}
 use Rattle.typing_rules.specs.TypeScopes.{TypeScope}
@@ -18,8 +18,11 @@ use Rattle.typing_rules.specs.Types.{Generics}
 abbrev pub AreTypes : Program ℕ → List Term → Type 0
 AreTypes program us = (made : Program Note) (c : Checks program (Ok made)) → Each (λ u. Among u c.met) us
 
-abbrev pub UnitIsAType : Type 0
-UnitIsAType = (program : Program ℕ) → AreTypes program (unit ∷ [])
+abbrev pub BasicsAreTypes : Type 0
+BasicsAreTypes = (program : Program ℕ) → AreTypes program basics
+
+abbrev pub OwnTypesAreTypes : Type 0
+OwnTypesAreTypes = (program : Program ℕ) → AreTypes program (own_types program)
 
 -- where type parameters are as they have to be, they are met
 abbrev pub ParametersAreTypes : Type 0
@@ -36,4 +39,4 @@ unused =
     p.End)
 
 abbrev pub UnusedIsAType : Type 0
-UnusedIsAType = AreTypes unused (unit ∷ t.Parameter 5 ∷ [])
+UnusedIsAType = AreTypes unused (t.Parameter 5 ∷ [])

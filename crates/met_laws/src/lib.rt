@@ -4,4 +4,6 @@
 
 mod laws;
 
-pub use laws::{type_parameters_are_types, unit_is_a_type, unused_parameters_are_types};
+pub use laws::{
+    basics_are_types, own_types_are_types, type_parameters_are_types, unused_parameters_are_types,
+};

@@ -1,3 +1,4 @@
+pub mod Given
 pub mod Programs
 pub mod Around
 pub mod Standing

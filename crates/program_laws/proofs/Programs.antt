@@ -7,15 +7,12 @@ use Rattle.typing_rules.specs.AbstractSyntax.{Declaration, Declarations}
 use Rattle.typing_rules.specs.AbstractSyntax as p
 use Rattle.typing_rules.specs.DeclaredTypes.{with_list}
 use Rattle.typing_rules.specs.Definitions.{Definitions}
-use Rattle.typing_rules.specs.Expressions.{JudgeOrder, JudgeBodies}
 use Rattle.typing_rules.specs.Gathered.{gathered, in_list, in_declaration}
-use Rattle.typing_rules.specs.Lists.{Listed}
 use Rattle.typing_rules.specs.Programs.{first_context}
 use Rattle.typing_rules.specs.Terms.{Term, unit}
 use Rattle.typing_rules.specs.TypeScopes.{TypeScope, no_types}
 use Rattle.desugaring_laws.specs.GraphOf.{IsGraphOf}
 use Rattle.desugaring_laws.specs.Scopes.{IsScopeFine, AreBoundsIn}
-use Rattle.desugaring_laws.proofs.Yielding.{part as after}
 use Rattle.scope_laws.specs.Gathers.{Gathers}
 use Rattle.scope_laws.proofs.Parts.{left_part, right_part}
 use Rattle.block_laws.specs.Lists.{IsReady, AreReady}
@@ -24,6 +21,7 @@ use Rattle.source_laws.proofs.Recursion.{typed, one_ready}
 use Rattle.actor_laws.specs.Actors.{IsReadyBehind, AreReadyBehind, ActorMade}
 use Rattle.actor_laws.proofs.Behind.{actors_are_made}
 use Rattle.program_laws.specs.Programs.{FieldIsSource, FieldsAreSource, ProgramsAreMade}
+use Rattle.program_laws.proofs.Given.{of_fields}
 
 no_name : {A : Type 0} (a : A) → None ≡ Some a → ⊥
 no_name a h = cc
@@ -57,12 +55,13 @@ module _ (defs : Definitions) (slots : List Slot) (terms : List Term) (number : 
       ((one.0, more.0), (one.1, more.1))
 
 pub programs_are_made : ProgramsAreMade
-programs_are_made program slots terms number graph source = λ units.
+programs_are_made program slots terms number graph source =
     let defs = gathered program in
     let ds = program.fields in
     let e = first_context program in
     let gathers = definitions_are_gathered defs source.numbered in
-    let ready = all_fields defs slots terms number graph units (with_list no_types ds) ds gathers source.fields in
-    after defs terms (Listed defs e ds (λ known. JudgeOrder defs known 0 false ds None None) (λ known made. JudgeBodies defs known ds made)) _ (ActorMade defs slots terms number e ds)
-    (λ made. (u : Term) × ActorMade defs slots terms number e ds (u, made.fields))
-    (actors_are_made defs slots terms number graph units 0 e (no_types_fine defs) (no_bounds defs) ds gathers ready.0 ready.1) (λ q m. (q.0, m))
+    of_fields terms program (ActorMade defs slots terms number e ds) (λ made. (u : Term) × ActorMade defs slots terms number e ds (u, made.fields))
+    (λ there.
+    let ready = all_fields defs slots terms number graph there.0 (with_list no_types ds) ds gathers source.fields in
+    actors_are_made defs slots terms number graph there.0 0 e (no_types_fine defs) (no_bounds defs) ds gathers ready.0 ready.1)
+    (λ q m there own. (q.0, m))

@@ -1,2 +1,1 @@
 mod Deciding
-pub mod Coming

@@ -1,15 +1,16 @@
 //! Programs.
 ghost use Rattle.std.specs.Prelude.{◌≡◌, IfOk, nat_le};
 ghost use Rattle.met_types.specs.States.{Kept};
-ghost use Rattle.program_rules.specs.Decided.{Decided, FewNodes, FieldsDecided};
+ghost use Rattle.abstract_tree.specs.TreeView.{plain_program};
+ghost use Rattle.program_rules.specs.Decided.{Decided, FewNodes, FieldsDecided, TypedIn, fields_in, program_in};
 
-use crate::fields::judge_fields;
 use abstract_tree::{Declaration, Program};
 use first_checker::first_checker;
 use met_types::Types;
 use mo_num::{Memory, Sequence};
 use mo_syntax::Items;
 use node_counts::count_nodes;
+use program_fields::judge_fields;
 use std::alloc::Global;
 use std::mem;
 use type_definitions::{Definitions, Numbers};
@@ -102,6 +103,7 @@ fn no_types(alloc: Global) -> Result<Types, Memory> {
 fn typed_fields(alloc: Global, program: &Program<u32>) -> Result<TypedFields, Refusal>
     ensures decided { FieldsDecided program.now result }
     ensures kept { IfOk result (λ made. Kept made.types) }
+    ensures types { IfOk result (λ made. TypedIn (plain_program program.now) made.types (fields_in program.now made)) }
 {
     has_few_nodes(program)?;
     // They stand in the checker in the place of those that are taken out of it.
@@ -117,6 +119,7 @@ fn typed_fields(alloc: Global, program: &Program<u32>) -> Result<TypedFields, Re
 pub fn judge_program(alloc: Global, program: Program<u32>) -> Result<TypedProgram, Refusal>
     ensures decided { Decided program result }
     ensures kept { IfOk result (λ made. Kept made.types) }
+    ensures types { IfOk result (λ made. TypedIn (plain_program program) made.types (program_in made)) }
 {
     let made = typed_fields(alloc, &program)?;
     Ok(made.in_program(alloc, program))

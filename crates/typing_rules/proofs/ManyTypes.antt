@@ -4,7 +4,7 @@ use Rattle.mo_types.specs.Sub.{Each}
 use Rattle.mo_types.specs.Layout as layout
 use Rattle.typed_tree.specs.OperationTypes.{Distinct}
 use Rattle.typing_rules.specs.declared.condition.Condition.TheVariants as condition
-use Rattle.typing_rules.specs.Terms.{Term, Optional, nat, unit}
+use Rattle.typing_rules.specs.Terms.{Term, Boolean, Optional, nat, unit}
 use Rattle.typing_rules.specs.Definitions.{Definitions}
 use Rattle.typing_rules.specs.Heads.{head}
 use Rattle.typing_rules.specs.Counts.{Reached, Met, Part, FewTypes}
@@ -54,9 +54,12 @@ module _ (defs : Definitions) (met : List Term) where
   all_reached zero r = (r, tt)
   all_reached (suc n) r = (r, all_reached n (inside n r))
 
-not_few : (defs : Definitions) (n : ℕ) → 4096 ≤ n → FewTypes defs (unit ∷ option n ∷ []) → ⊥
+abbrev met_in : ℕ → List Term
+met_in n = unit ∷ Boolean ∷ nat ∷ option n ∷ []
+
+not_few : (defs : Definitions) (n : ℕ) → 4096 ≤ n → FewTypes defs (met_in n) → ⊥
 not_few defs n l f =
-    let h : length (options_in n) ≤ 4096 = (f (options_in n) (distinct n) (all_reached defs (unit ∷ option n ∷ []) n (Met (option n) (inr (inl refl))))).0 in
+    let h : length (options_in n) ≤ 4096 = (f (options_in n) (distinct n) (all_reached defs (met_in n) n (Met (option n) (inr (inr (inr (inl refl))))))).0 in
     let e : length (options_in n) ≡ suc n = lengths n in
     omega arith
 
@@ -64,8 +67,18 @@ few_unit : (defs : Definitions) → FewTypes defs (unit ∷ [])
 unfolding head layout.layout
 few_unit defs = few_are defs 2 (unit ∷ []) refl
 
+few_flag : (defs : Definitions) → FewTypes defs (unit ∷ Boolean ∷ [])
+unfolding head layout.layout
+few_flag defs = few_are defs 4 (unit ∷ Boolean ∷ []) refl
+
+few_basics : (defs : Definitions) → FewTypes defs (unit ∷ Boolean ∷ nat ∷ [])
+unfolding head layout.layout
+few_basics defs = few_are defs 6 (unit ∷ Boolean ∷ nat ∷ []) refl
+
 pub many_options : Checks (with_options 4096) (Err (fault condition.TooManyTypes 0))
 many_options = record {
-  met = unit ∷ option 4096 ∷ [];
-  by = inl (few_unit (gathered (with_options 4096)), inr (not_few (gathered (with_options 4096)) 4096 (omega arith), refl));
+  met = met_in 4096;
+  by =
+      let defs = gathered (with_options 4096) in
+      inl (few_unit defs, inl (few_flag defs, inl (few_basics defs, inr (not_few defs 4096 (omega arith), refl))));
 }

@@ -1,13 +1,13 @@
 -- When a program is typed, and when it is refused (Motoko language manual, sections "Programs" and "Actors").
-use Rattle.std.specs.Prelude.{ℕ, false, List, [], ◌∷◌, Option, Some, None, Result, Ok, Err, nat_le}
+use Rattle.std.specs.Prelude.{ℕ, false, List, [], ◌∷◌, map, Option, Some, None, Result, Ok, Err, nat_le}
 use Rattle.mo_syntax.specs.declared.program.Tree.{Tree}
 use Rattle.typing_rules.specs.declared.condition.Condition.TheVariants as condition
 use Rattle.typing_rules.specs.AbstractSyntax.{Bytes, Program, Declaration, Declarations}
 use Rattle.typing_rules.specs.AbstractSyntax as p
 use Rattle.typing_rules.specs.AbstractPrograms.{abstract}
-use Rattle.typing_rules.specs.Terms.{Term, Fields, unit}
+use Rattle.typing_rules.specs.Terms.{Term, Fields, nat, unit}
 use Rattle.typing_rules.specs.Terms as t
-use Rattle.typing_rules.specs.Judgements.{Judgement, Gives, Meets, Part, Tests}
+use Rattle.typing_rules.specs.Judgements.{Judgement, Gives, MeetsEach, Part, Tests}
 use Rattle.typing_rules.specs.Answers.{Fault, answer, Comes}
 use Rattle.typing_rules.specs.TypeScopes.{TypeScope, no_types}
 use Rattle.typing_rules.specs.DeclaredTypes.{with_list, parameter_terms}
@@ -47,12 +47,20 @@ first_context program =
 abbrev pub made_program : Program ℕ → Declarations Note → Program Note
 made_program program ds = record { imports = program.imports; name = program.name; fields = ds }
 
--- The actor's fields are a list of declarations. `()` is a type of every program.
+-- the types of every program, whether a node has them or not
+abbrev pub basics : List Term
+basics = unit ∷ t.Boolean ∷ nat ∷ []
+
+-- the type of the actor, where it has a name
+abbrev pub own_types : Program ℕ → List Term
+own_types program = map (λ z. z.1.type) (own_name program.name (actor_type program))
+
+-- The actor's fields are a list of declarations.
 abbrev pub JudgeFieldsOf : Program ℕ → Judgement (Program Note)
 JudgeFieldsOf program =
-    Meets unit (Part (Listed (gathered program) (first_context program) program.fields
+    MeetsEach basics (Part (Listed (gathered program) (first_context program) program.fields
     (λ known. JudgeOrder (gathered program) known 0 false program.fields None None) (λ known made. JudgeBodies (gathered program) known program.fields made))
-    (λ q. Gives (made_program program q.1)))
+    (λ q. MeetsEach (own_types program) (Gives (made_program program q.1))))
 
 -- There are at most 50,000 nodes, which is tested first.
 abbrev pub JudgeProgram : Program ℕ → Judgement (Program Note)

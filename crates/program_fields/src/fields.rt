@@ -9,11 +9,12 @@ ghost use Rattle.abstract_tree.specs.TreeView.{plain_program};
 ghost use Rattle.judging.specs.Answers.{Answers};
 ghost use Rattle.judging.specs.Parts.{Known, Sound};
 ghost use Rattle.list_judging.specs.Lists.{list_in, list_reached};
-ghost use Rattle.program_rules.specs.Decided.{FieldsCome, first_site, listed_fields};
+ghost use Rattle.program_fields.specs.Fields.{FieldsCome, all_fields, first_site, in_program, listed_fields, whatever};
 
+use crate::basics::{meets_basics, meets_own};
 use abstract_tree::{Declaration, Program};
 use first_scopes::{first_place, first_scopes};
-use judging::{Checker, Site, meets_unit};
+use judging::{Checker, Site};
 use list_judging::MadeList;
 use mo_syntax::Items;
 use tree_judging::judge_list;
@@ -32,7 +33,7 @@ fn first_site() -> Site
     }
 }
 
-/// The list of the fields. `()` is met first.
+/// The list of the fields. Before it the types that every program has are met.
 fn judge_listed(
     checker: &mut Checker,
     scopes: &mut Scopes,
@@ -41,12 +42,29 @@ fn judge_listed(
     requires { Sound checker.old scopes.old }
     ensures { Answers list_in list_reached (listed_fields fields.now) scopes.old checker.old scopes.new checker.new result }
 {
-    meets_unit(checker)?;
+    meets_basics(checker)?;
     judge_list(checker, scopes, first_site(), false, fields)
 }
 
-/// The fields of a program, by what is known of its types.
-pub(crate) fn judge_fields(
+/// The fields. Behind them the type of an actor that has a name is met.
+fn judge_all(
+    checker: &mut Checker,
+    scopes: &mut Scopes,
+    program: &Program<u32>,
+) -> Result<Items<Declaration<Note>>, Refusal>
+    requires { Sound checker.old scopes.old }
+    ensures { Answers (in_program program.now) whatever (all_fields program.now) scopes.old checker.old scopes.new checker.new result }
+{
+    let MadeList {
+        kind: _kind,
+        declarations,
+    } = judge_listed(checker, scopes, program.fields.as_slice())?;
+    meets_own(checker, scopes, &program.name)?;
+    Ok(declarations)
+}
+
+/// The fields of a program, by what is known of its types: Motoko language manual, sections "Programs", "Actors".
+pub fn judge_fields(
     checker: &mut Checker,
     program: &Program<u32>,
 ) -> Result<Items<Declaration<Note>>, Refusal>
@@ -57,12 +75,8 @@ pub(crate) fn judge_fields(
     ensures kept { OnOk result (Kept checker.new.types) }
 {
     let mut scopes = first_scopes(checker, program)?;
-    let judged = judge_listed(checker, &mut scopes, program.fields.as_slice());
+    let judged = judge_all(checker, &mut scopes, program);
     // In the table no term is twice, and each is made of terms before it.
     let _terms = checker.types.terms().len();
-    let MadeList {
-        kind: _kind,
-        declarations,
-    } = judged?;
-    Ok(declarations)
+    judged
 }

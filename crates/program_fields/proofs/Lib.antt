@@ -1,0 +1,3 @@
+pub mod MetTypes
+pub mod Own
+pub mod Coming
