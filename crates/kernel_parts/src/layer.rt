@@ -25,6 +25,7 @@ pub struct Part<'a> {
 pub type Written = Result<TypedExpression, Memory>;
 
 /// What a rule is given: the types of the program, and the writing out of parts.
+#[derive(Clone, Copy)]
 pub struct Layer<'a, F> {
     pub alloc: Global,
     pub types: &'a KernelTypes,

@@ -43,6 +43,7 @@ impl Drop for Arranged {
 pub type WrittenList = Result<Arranged, Memory>;
 
 /// What a rule is given of the writing out of lists besides that of expressions.
+#[derive(Clone, Copy)]
 pub struct Lists<'a, F, G> {
     pub layer: Layer<'a, F>,
     pub write_list: G,

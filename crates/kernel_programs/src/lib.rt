@@ -3,5 +3,6 @@
 
 mod actors;
 mod programs;
+mod whole;
 
-pub use programs::program_by;
+pub use whole::kernel_program;

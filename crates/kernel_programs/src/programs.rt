@@ -45,24 +45,13 @@ fn program_actor<
         write,
     };
     let lists = Lists { layer, write_list };
-    let made = written_actor(&lists, program);
-    let Lists {
-        layer,
-        write_list: _write_list,
-    } = lists;
-    let Layer {
-        alloc: _alloc,
-        types: _types,
-        depth: _depth,
-        write: _write,
-    } = layer;
-    made
+    written_actor(&lists, program)
 }
 
 /// The typed program that a judged one is written out to, with the types of its nodes, by the writing out of expressions and lists: Motoko language
 /// manual, sections "Programs" and "Actors". Each public function of a judged program has the type of a shared function noted at it, and each type
 /// at a node is one of the graph; for another program, which never comes, the answer is that memory is lacking.
-pub fn program_by<
+pub(crate) fn program_by<
     F: Fn(&mut Frames, Part<'_>) -> Written + Copy,
     G: Fn(&mut Frames, ListPart<'_>) -> WrittenList + Copy,
 >(
