@@ -1,5 +1,5 @@
 -- How rules end, whatever the type is that is given.
-use Rattle.std.proofs.Common.{ℕ, ℤ, pos, true, List, [], ◌∷◌, Option, Some, None}
+use Rattle.std.proofs.Common.{ℕ, ℤ, pos, List, [], ◌∷◌, Option, Some, None}
 use Rattle.mo_num.specs.declared.kind.Kind.{Kind}
 use Rattle.mo_num.specs.declared.kind.Kind.TheVariants as kind
 use Rattle.mo_types.specs.Heads.{number_of}

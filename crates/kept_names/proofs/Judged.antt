@@ -4,24 +4,24 @@ use Rattle.std.specs.Prelude.{nat_eq, slice_get, is_some}
 use Rattle.std.specs.Option.{option_and_then}
 use Rattle.mo_num.specs.declared.kind.Kind.TheVariants as kind
 use Rattle.mo_scopes.specs.declared.library.Member.{Member}
-use Rattle.mo_scopes.specs.Scopes.{named, members_of}
+use Rattle.mo_scopes.specs.Scopes.{named}
 use Rattle.mo_types.specs.declared.node.Field.{Field}
 use Rattle.mo_types.specs.Heads.{opt_of, array_of, mut_array_of, tuple_of, object_of, actor_of, variant_of, func_of, async_of}
 use Rattle.mo_types.specs.Sub.{find}
 use Rattle.subtype_laws.specs.Reached.{Among}
 use Rattle.typing_rules.specs.declared.condition.Condition.TheVariants as condition
-use Rattle.typing_rules.specs.AbstractSyntax.{Bytes, TypeNode, Pattern, Expression, Form, Expressions, Cases, ObjectFields, Declaration, Declarations}
+use Rattle.typing_rules.specs.AbstractSyntax.{Bytes, Pattern, Expression, Form, Expressions, Cases, ObjectFields, Declaration, Declarations}
 use Rattle.typing_rules.specs.AbstractSyntax as p
 use Rattle.typing_rules.specs.AsyncPlaces.{Around, Awaited, Named, Labelled, Other, Local, waits, calls, takes_call, takes_name, body_of, around_of, FuturePlaced}
 use Rattle.typing_rules.specs.Calls.{built_in, if_generic, polymorphic, local_of, called, Instance, items_of}
-use Rattle.typing_rules.specs.Contexts.{Bound, Scope, Context, variable, constant as constant_bound, value_named, module_member, module_named, with_values, with_label, in_loop, with_types, in_option, in_body, directly}
+use Rattle.typing_rules.specs.Contexts.{Bound, Scope, Context, variable, constant as constant_bound, value_named, module_member, with_values, with_label, in_loop, with_types, in_option, in_body, directly}
 use Rattle.typing_rules.specs.DeclaredTypes.{within, with_list, member_fields}
 use Rattle.typing_rules.specs.Definitions.{Definitions}
 use Rattle.typing_rules.specs.Ends.{wanted}
 use Rattle.typing_rules.specs.Expressions.{Judge, Rule, JudgePlace, PlaceRule, JudgeEach, JudgeAll, JudgeCases, JudgeFields, JudgeOne, JudgeOrder, JudgeBody, JudgeBodies, actor_text, all_there, element_of, some_each, same as is_same, Elements, field_questions}
 use Rattle.typing_rules.specs.Heads.{head, members_head}
 use Rattle.typing_rules.specs.Judgements.{Case, Given, Tests, Meets, Gives, NeedsEach, Part as Bind}
-use Rattle.typing_rules.specs.Lists.{Made, Entry as Member_of, Run, Listed, of_expression, EndsList, TakesMade}
+use Rattle.typing_rules.specs.Lists.{Made, Listed, of_expression, EndsList}
 use Rattle.typing_rules.specs.Literals.{plain_number, written}
 use Rattle.typing_rules.specs.Members.{member_bound, member_type, object_field}
 use Rattle.typing_rules.specs.Operands.{Negative, Binary, Operand}
@@ -38,14 +38,14 @@ use Rattle.typing_rules.specs.Ends.{Greatest}
 use Rattle.desugaring.specs.FreeNames.{names_in, names_in_each, names_of_list, occurring, in_each, in_cases, in_fields, in_declaration, in_declarations, without}
 use Rattle.desugaring_laws.specs.Yields.{Yields}
 use Rattle.desugaring_laws.proofs.Yielding.{anything, given, tests, by_case, part as after}
-use Rattle.kept_names.specs.Keeping.{IsBound, Keeps, DeclarationKept, AllKept, ListKept}
+use Rattle.kept_names.specs.Keeping.{IsBound, Keeps, AllKept, ListKept}
 use Rattle.kept_names.specs.Laws.{ListsAreKept}
-use Rattle.kept_names.specs.Plain.{PatternIsPlain, EachPatternIsPlain, IsPlain, EachIsPlain, CasesArePlain, FieldsArePlain, ArePlain, DeclarationIsPlain}
+use Rattle.kept_names.specs.Plain.{PatternIsPlain, EachPatternIsPlain, IsPlain, EachIsPlain, CasesArePlain, FieldsArePlain, ArePlain}
 use Rattle.kept_names.proofs.Ends.{needs_each, has, leaves, branches, number, constant}
-use Rattle.kept_names.proofs.Lists.{list_keeps, One, TakesOf, AreTaken, evaluated_names, Evaluated, Ran, ran_on, BodyKept, takes_one, listed}
+use Rattle.kept_names.proofs.Lists.{list_keeps, TakesOf, AreTaken, Evaluated, Ran, ran_on, BodyKept, takes_one, listed}
 use Rattle.kept_names.proofs.Names.{bound_here, bound_right, same as all_names, two, weaker, hidden}
 use Rattle.kept_names.proofs.Operators.{Kept, negative_kept, operand_kept, binary_kept}
-use Rattle.kept_names.proofs.Standing.{Standing, Stood, stood, Taking, parameters_stood}
+use Rattle.kept_names.proofs.Standing.{Stood, stood, Taking, parameters_stood}
 
 -- ---- names of modules, and what is called
 

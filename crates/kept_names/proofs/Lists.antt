@@ -1,5 +1,5 @@
 -- The names of lists of declarations.
-use Rattle.std.proofs.Common.{◌≡◌, ◌⊎◌, inl, inr, ℕ, Bool, List, [], ◌∷◌, ◌++◌, Option, Some, None, refl, sym, ap₂, subst}
+use Rattle.std.proofs.Common.{◌≡◌, ◌⊎◌, inl, inr, ℕ, Bool, List, [], ◌∷◌, ◌++◌, refl, sym, ap₂, subst}
 use Rattle.subtype_laws.specs.Reached.{Among}
 use Rattle.typing_rules.specs.AbstractSyntax.{Bytes, Declaration, Declarations}
 use Rattle.typing_rules.specs.AbstractSyntax as p

@@ -1,16 +1,15 @@
 -- The names of operands.
-use Rattle.std.proofs.Common.{ℕ, true, false, List, [], ◌∷◌, ◌++◌, Option, Some, None}
+use Rattle.std.proofs.Common.{ℕ, List, [], ◌∷◌, ◌++◌, Option, Some, None}
 use Rattle.mo_syntax.specs.declared.operators.BinaryOperator.{BinaryOperator}
-use Rattle.mo_types.specs.Heads.{number_of}
 use Rattle.typing_rules.specs.declared.condition.Condition.TheVariants as condition
 use Rattle.typing_rules.specs.AbstractSyntax.{Bytes, Expression}
 use Rattle.typing_rules.specs.AbstractSyntax as p
-use Rattle.typing_rules.specs.Contexts.{Context, Scope}
+use Rattle.typing_rules.specs.Contexts.{Scope}
 use Rattle.typing_rules.specs.Definitions.{Definitions}
 use Rattle.typing_rules.specs.Ends.{wanted, Greatest}
 use Rattle.typing_rules.specs.Heads.{head}
 use Rattle.typing_rules.specs.Judgements.{Judgement, Gives}
-use Rattle.typing_rules.specs.Literals.{Written, own_type, has_own, may_have}
+use Rattle.typing_rules.specs.Literals.{Written, has_own, may_have}
 use Rattle.typing_rules.specs.Operands.{BothFit, Negative, OtherOperand, LiteralOperand, GreatestOf, Operands, Arithmetic, Equality, Ordering, Binary, Operand}
 use Rattle.typing_rules.specs.Operators.{Family, number_with, negated_of, signed_of, is_ordered}
 use Rattle.typing_rules.specs.Operators as o

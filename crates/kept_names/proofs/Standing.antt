@@ -1,5 +1,5 @@
 -- The names of patterns and parameters.
-use Rattle.std.proofs.Common.{◌≡◌, ◌⊎◌, inl, inr, ℕ, true, false, List, [], ◌∷◌, ◌++◌, Option, Some, None, refl, sym, ap₂, subst}
+use Rattle.std.proofs.Common.{◌≡◌, ◌⊎◌, inl, inr, ℕ, true, false, List, [], ◌∷◌, ◌++◌, refl, ap₂, subst}
 use Rattle.std.specs.Prelude.{not}
 use Rattle.mo_types.specs.declared.node.Field.{Field}
 use Rattle.mo_types.specs.Heads.{opt_of, tuple_of, object_of, variant_of}

@@ -3,7 +3,7 @@
 use Rattle.std.specs.Prelude.{◌≡◌, ℕ, List, Some}
 use Rattle.mo_scopes.specs.Scopes.{named}
 use Rattle.subtype_laws.specs.Reached.{Among}
-use Rattle.typing_rules.specs.AbstractSyntax.{Bytes, Expression, Declaration, Declarations}
+use Rattle.typing_rules.specs.AbstractSyntax.{Bytes, Declaration, Declarations}
 use Rattle.typing_rules.specs.AbstractSyntax as p
 use Rattle.typing_rules.specs.Contexts.{Bound, Scope}
 use Rattle.typing_rules.specs.TypedTrees.{Note}

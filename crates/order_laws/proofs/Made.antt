@@ -1,5 +1,5 @@
 -- Declarations as they are placed, before and after they are judged.
-use Rattle.std.proofs.Common.{◌≡◌, ◌⊎◌, inl, inr, ℕ, zero, suc, Bool, true, List, [], ◌∷◌, ◌++◌, map, Option, Some, None, refl, sym, ap, ◌∙◌, subst}
+use Rattle.std.proofs.Common.{◌≡◌, ◌⊎◌, inl, inr, ℕ, zero, suc, Bool, true, List, ◌∷◌, map, Some, None, refl, ap, subst}
 use Rattle.mo_types.specs.declared.node.TypeId.{TypeId}
 use Rattle.subtype_laws.specs.Reached.{Among}
 use Rattle.typed_tree.specs.Placing.{Declared, is_among}
@@ -11,7 +11,7 @@ use Rattle.typing_rules.specs.Terms.{Term}
 use Rattle.typing_rules.specs.TypedTrees.{Note}
 use Rattle.desugaring.specs.Expressions.{pieces}
 use Rattle.desugaring.specs.FreeNames.{declared, names_of, names_of_list, in_declaration, in_declarations}
-use Rattle.kept_names.specs.Keeping.{IsBound, DeclarationKept, scope_of, AllKept, ListKept}
+use Rattle.kept_names.specs.Keeping.{IsBound, DeclarationKept, scope_of, AllKept}
 use Rattle.kept_names.specs.Plain.{ArePlain}
 use Rattle.kept_names.proofs.Names.{among_left, among_right, among_either, any_among, among_any}
 use Rattle.kernel_places.specs.Reaching.{at}

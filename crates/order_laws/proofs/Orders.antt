@@ -1,33 +1,28 @@
 -- Lists in order.
-use Rattle.std.proofs.Common.{◌≡◌, ◌⊎◌, inl, inr, ℕ, zero, suc, ◌+◌, ◌<◌, ◌≤◌, Bool, true, false, List, [], ◌∷◌, ◌++◌, map, Option, Some, None, refl, sym, ap, ◌∙◌, subst, arith}
+use Rattle.std.proofs.Common.{◌≡◌, ◌⊎◌, inl, inr, ℕ, zero, suc, ◌+◌, ◌<◌, ◌≤◌, Bool, true, false, List, Some, None, refl, sym, ap, ◌∙◌, subst, arith}
 use Rattle.mo_types.specs.declared.node.TypeId.{TypeId}
 use Rattle.mo_types.specs.Graph.{Slot}
 use Rattle.subtype_laws.specs.Reached.{Among}
-use Rattle.typed_tree.specs.OperationTypes.{Distinct}
 use Rattle.typed_tree.specs.Placing.{Declared, is_among, place}
 use Rattle.typing_rules.specs.AbstractSyntax.{Bytes, Declaration, Declarations}
 use Rattle.typing_rules.specs.AbstractSyntax as p
 use Rattle.typing_rules.specs.AsyncPlaces.{Other}
-use Rattle.typing_rules.specs.Contexts.{Scope, Context, directly}
+use Rattle.typing_rules.specs.Contexts.{Scope, directly}
 use Rattle.typing_rules.specs.DeclaredTypes.{with_list}
-use Rattle.typing_rules.specs.Definitions.{Definitions}
 use Rattle.typing_rules.specs.Expressions.{JudgeOrder, JudgeBodies}
 use Rattle.typing_rules.specs.Lists.{Entry as Given, Listed}
 use Rattle.typing_rules.specs.Terms.{Term}
 use Rattle.typing_rules.specs.TypedTrees.{Note}
 use Rattle.typing_rules.specs.TypeScopes.{TypeScope}
-use Rattle.desugaring.specs.Expressions.{pieces}
 use Rattle.desugaring.specs.FreeNames.{declared, names_of_list, in_declaration, in_declarations, without}
-use Rattle.desugaring_laws.specs.Yields.{Yields}
 use Rattle.desugaring_laws.proofs.Yielding.{more}
 use Rattle.list_laws.specs.Facts.{Fact}
 use Rattle.block_laws.specs.Order.{Reaches, UsesInOrder, AllInOrder, facts_of, IsInOrder}
-use Rattle.block_forms.specs.Blocks.{AreNested, InOrder}
-use Rattle.kept_names.specs.Keeping.{IsBound, AllKept, ListKept}
-use Rattle.kept_names.specs.Plain.{ArePlain}
+use Rattle.block_forms.specs.Blocks.{AreNested}
+use Rattle.kept_names.specs.Keeping.{AllKept, ListKept}
 use Rattle.kept_names.proofs.Judged.{lists_are_kept}
 use Rattle.kept_names.proofs.Names.{any_among, among_any, stays_of}
-use Rattle.kernel_places.specs.Reaching.{at, Hits}
+use Rattle.kernel_places.specs.Reaching.{at}
 use Rattle.kernel_places.specs.Reaching as reaching
 use Rattle.order_laws.specs.Laws.{ListsAreInOrder}
 use Rattle.order_laws.specs.Ordered.{declareds, IsOrdered}

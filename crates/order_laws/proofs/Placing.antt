@@ -1,5 +1,5 @@
 -- Where declarations stand by what they use.
-use Rattle.std.proofs.Common.{◌≡◌, ◌⊎◌, inl, inr, ℕ, zero, suc, ◌+◌, ◌<◌, ◌≤◌, true, List, [], ◌∷◌, ◌++◌, Option, Some, None, refl, sym, ap, ◌∙◌, subst, arith}
+use Rattle.std.proofs.Common.{◌≡◌, ◌⊎◌, inl, inr, ℕ, zero, suc, ◌<◌, ◌≤◌, true, List, ◌∷◌, Some, None, sym, ◌∙◌, subst, arith}
 use Rattle.std.proofs.Math.Logic.{⊎_elim}
 use Rattle.mo_types.specs.declared.node.TypeId.{TypeId}
 use Rattle.mo_types.specs.Graph.{Slot}
@@ -14,7 +14,7 @@ use Rattle.typing_rules.specs.TypeScopes.{TypeScope}
 use Rattle.desugaring.specs.FreeNames.{declared}
 use Rattle.list_laws.specs.Facts.{Fact, Evaluates, IsFunction, Other, DefinedBefore, FunctionBefore}
 use Rattle.block_laws.specs.Order.{fact_of, facts_of, first_scope, others}
-use Rattle.kernel_places.specs.Reaching.{at, Reaches, Hits, HasPlace}
+use Rattle.kernel_places.specs.Reaching.{at, Reaches, Hits}
 use Rattle.kernel_places.proofs.Placed.{place_has}
 use Rattle.order_laws.specs.Ordered.{declareds}
 use Rattle.order_laws.proofs.Made.{Alike}

@@ -4,7 +4,6 @@ use Rattle.mo_types.specs.declared.node.TypeId.{TypeId}
 use Rattle.mo_types.specs.Graph.{Slot}
 use Rattle.typed_tree.specs.OperationTypes.{Distinct}
 use Rattle.typing_rules.specs.AbstractSyntax.{Declarations}
-use Rattle.typing_rules.specs.AbstractSyntax as p
 use Rattle.typing_rules.specs.Definitions.{Definitions}
 use Rattle.typing_rules.specs.Terms.{Term}
 use Rattle.typing_rules.specs.TypeScopes.{TypeScope}

@@ -1,84 +1,63 @@
 -- Each form of expression.
-use Rattle.std.proofs.Common.{◌≡◌, ◌⊎◌, inl, inr, ℕ, suc, ◌+◌, ◌<◌, ◌≤◌, Bool, true, false, List, [], ◌∷◌, ◌++◌, map, Option, Some, None, refl, sym, ap, ap₂, ◌∙◌, subst, arith, append-nil, append_assoc, option_map}
+use Rattle.std.proofs.Common.{◌≡◌, ℕ, ◌+◌, true, false, List, [], ◌∷◌, ◌++◌, map, Option, Some, None, refl, sym, ap, ap₂, ◌∙◌, subst, arith, append-nil, append_assoc, option_map}
 use Rattle.std.specs.List.{flat_map}
-use Rattle.mo_syntax.specs.declared.literal.Literal.{Literal}
-use Rattle.mo_syntax.specs.declared.literal.Literal.TheVariants as literal
 use Rattle.mo_syntax.specs.declared.name.Name.{Name}
-use Rattle.mo_syntax.specs.declared.types.TypeExpression.{TypeExpression}
-use Rattle.mo_syntax.specs.declared.types.TypeParameter.{TypeParameter}
-use Rattle.mo_syntax.specs.declared.operators.AssignmentOperator.{AssignmentOperator}
 use Rattle.mo_syntax.specs.declared.operators.AssignmentOperator.TheVariants as assign
 use Rattle.mo_syntax.specs.declared.operators.BinaryOperator.TheVariants as op
 use Rattle.mo_syntax.specs.declared.patterns.Pattern.{Pattern}
 use Rattle.mo_syntax.specs.declared.patterns.Parameters.{Parameters}
 use Rattle.mo_syntax.specs.declared.expressions.Expression as tree
-use Rattle.mo_syntax.specs.declared.expressions.Case as tree_case
-use Rattle.mo_syntax.specs.declared.expressions.ExpressionField as tree_field
-use Rattle.mo_syntax.specs.declared.declarations.Declaration as tree_declaration
-use Rattle.mo_syntax.specs.declared.declarations.DeclarationField as tree_member
 use Rattle.mo_syntax.specs.declared.declarations.Declaration.TheOpen as F
-use Rattle.mo_syntax.specs.declared.declarations.Visibility.{Visibility}
-use Rattle.mo_syntax.specs.declared.declarations.Visibility.TheVariants as visible
-use Rattle.mo_syntax.specs.declared.token.TokenKind.{TokenKind}
 use Rattle.mo_syntax.specs.declared.token.TokenKind.TheVariants as t
 use Rattle.mo_syntax.specs.declared.word.Word.TheVariants as w
 use Rattle.mo_syntax.specs.declared.mark.Mark.TheVariants as m
-use Rattle.mo_syntax.specs.Parts.{Each}
-use Rattle.mo_syntax.specs.TypeGrammar.{type_tokens, type_parameters_tokens}
+use Rattle.mo_syntax.specs.TypeGrammar.{type_tokens}
 use Rattle.mo_syntax.specs.PatternGrammar.{pattern_tokens, parameters_tokens}
 use Rattle.mo_syntax.specs.ExpressionGrammar.{signature, assignment_token, operator_token}
 use Rattle.mo_syntax.specs.ExpressionGrammar as grammar
-use Rattle.mo_syntax.specs.Writing.{Writing, separated, marked, led, optional, commas, semicolons, annotation, angles, braces, parens, tag, literal_token}
-use Rattle.mo_syntax.proofs.Known.{Known}
+use Rattle.mo_syntax.specs.Writing.{marked, led, commas, semicolons, annotation, angles, braces, parens, tag, literal_token}
 use Rattle.mo_name_table.specs.Places.{texts}
-use Rattle.mo_pattern_names.specs.TypeNames.{Entry}
 use Rattle.mo_pattern_names.specs.TypeNames as TN
 use Rattle.mo_pattern_names.specs.PatternNames.{in_parameters, whole}
 use Rattle.mo_pattern_names.specs.PatternNames as pattern_names
-use Rattle.mo_bindings.specs.ExpressionNames.{Declared, Whole, Member}
+use Rattle.mo_bindings.specs.ExpressionNames.{Member}
 use Rattle.mo_bindings.specs.ExpressionNames as names
-use Rattle.mo_names.specs.Order.{Step, Found, FoundStep}
 use Rattle.mo_names.specs.Order as order
-use Rattle.mo_order.specs.Parts as parts
-use Rattle.mo_scopes.specs.declared.finding.Finding.{Finding}
 use Rattle.mo_scopes.specs.declared.scope.Scope.{Scope}
-use Rattle.mo_scopes.specs.Findings.{Names, InScope, identifier, label, labels, used, together, each_within}
-use Rattle.mo_scopes.specs.Scopes.{with_values, with_types, with_loop, without_loops, value_meaning, loop_meaning}
+use Rattle.mo_scopes.specs.Findings.{identifier, label, labels, used, together, each_within}
+use Rattle.mo_scopes.specs.Scopes.{with_values, with_loop, loop_meaning}
 use Rattle.mo_types.specs.declared.node.TypeId.{TypeId}
 use Rattle.mo_types.specs.Graph.{Slot}
 use Rattle.mo_types.specs.Label.{label_id}
 use Rattle.typed_tree.specs.OperationTypes.{Distinct}
-use Rattle.typing_rules.specs.AbstractSyntax.{Bytes, Expression, Expressions, Form, Cases, ObjectFields, Declaration, Declarations}
 use Rattle.typing_rules.specs.AbstractSyntax as p
-use Rattle.typing_rules.specs.AbstractExpressions.{DeclarationSpan, ExpressionSpan, MemberSpan, CaseSpan, ObjectFieldSpan, items_at, cases, object_fields, declarations, members, between, behind, braces_size, signature_span, type_arguments, arguments_size}
+use Rattle.typing_rules.specs.AbstractExpressions.{items_at, cases, object_fields, behind, braces_size, signature_span, type_arguments, arguments_size}
 use Rattle.typing_rules.specs.AbstractExpressions as rules
 use Rattle.typing_rules.specs.AbstractPatterns as abstract_patterns
-use Rattle.typing_rules.specs.AbstractTypes.{in_type, generics_size}
+use Rattle.typing_rules.specs.AbstractTypes.{in_type}
 use Rattle.typing_rules.specs.AbstractTypes as abstract_types
 use Rattle.typing_rules.specs.DeclaredTypes.{within, with_list}
 use Rattle.typing_rules.specs.Definitions.{Definitions}
 use Rattle.typing_rules.specs.Gathered.{both}
 use Rattle.typing_rules.specs.Gathered as gathered
-use Rattle.typing_rules.specs.Spans.{Span, flag, listed_from, listed_size, name_at, literal_of}
+use Rattle.typing_rules.specs.Spans.{flag, listed_from, listed_size, literal_of}
 use Rattle.typing_rules.specs.Spans as spans
 use Rattle.typing_rules.specs.Terms.{Term}
 use Rattle.typing_rules.specs.TypeScopes.{TypeScope}
-use Rattle.desugaring.specs.FreeNames.{names_in, names_in_each, names_of_list, occurring, in_each, in_cases, in_fields, in_declarations, without}
-use Rattle.expression_laws.specs.Laws.{IsPatternFine, labels_in}
+use Rattle.desugaring.specs.FreeNames.{names_in, names_in_each, occurring, in_each, in_cases, in_fields, without}
+use Rattle.expression_laws.specs.Laws.{IsPatternFine}
 use Rattle.function_laws.specs.Laws.{AreParametersFine}
-use Rattle.block_forms.specs.Fields.{public_fields}
-use Rattle.source_laws.specs.Source.{IsSource, EachIsSource, EachCaseIsSource, EachFieldIsSource, AreSource, DeclarationIsSource}
-use Rattle.kept_names.specs.Plain.{IsPlain, EachIsPlain, CasesArePlain, FieldsArePlain, ArePlain, DeclarationIsPlain, PatternIsPlain, EachPatternIsPlain}
-use Rattle.source_facts.specs.Shown.{IsTokenWritten, AreWritten}
-use Rattle.source_facts.proofs.Facts.{Numbered, wide, numbered_on, numbered_two, none_numbered, hidden_same, both_same, StepIs, ExpressionFacts, DeclarationFacts, MemberFacts, CaseFacts, FieldFacts}
+use Rattle.source_laws.specs.Source.{IsSource}
+use Rattle.source_facts.specs.Shown.{AreWritten}
+use Rattle.source_facts.proofs.Facts.{wide, numbered_on, numbered_two, none_numbered, hidden_same, both_same, ExpressionFacts, DeclarationFacts, MemberFacts, CaseFacts, FieldFacts}
 use Rattle.source_facts.specs.Laws.{AreMeanings, IsListFine, AreListsFine}
-use Rattle.source_facts.proofs.Findings.{first_fine, last_fine, names_differ, numbers, numbers_differ}
+use Rattle.source_facts.proofs.Findings.{first_fine, last_fine, names_differ, numbers_differ}
 use Rattle.source_facts.proofs.Patterns.{first_written, last_written, parts_written, braced, literal_written, texts_both, pattern_facts, parameter_facts}
-use Rattle.source_facts.proofs.Sequences.{each_first, each_last, Sub, Done, Take, sub_all, sub_none, sub_both, sub_map, sub_distinct, AllBelow, below_more}
+use Rattle.source_facts.proofs.Sequences.{each_first, each_last, sub_distinct, AllBelow, below_more}
 use Rattle.source_facts.proofs.Trees as trees
-use Rattle.source_facts.proofs.DeclarationLists.{KD, KM, block_spans, block_names, block_founds, block_writings, block_at, block_same, block_numbered, block_each, block_in_order, below_list, member_spans, member_names, member_founds, member_writings, member_at, member_same, member_numbered, object_fine}
+use Rattle.source_facts.proofs.DeclarationLists.{KD, KM, block_spans, block_names, block_writings, block_at, block_same, block_numbered, block_each, block_in_order, below_list, member_spans, member_writings, member_at, member_same, member_numbered, object_fine}
 use Rattle.source_facts.proofs.Forms.{no_some, KE, leaf, one, two}
-use Rattle.source_facts.proofs.Items.{K, KC, KF, item_spans, item_wholes, item_founds, item_writings, items_same, items_numbered, items_fine, case_spans, case_scopes, case_founds, case_writings, cases_same, cases_numbered, cases_fine, field_spans, field_entries, field_founds, field_writings, fields_same, fields_labels, fields_numbered, fields_fine}
+use Rattle.source_facts.proofs.Items.{KC, KF, item_spans, item_wholes, item_founds, item_writings, items_same, items_numbered, items_fine, case_spans, case_scopes, case_founds, case_writings, cases_same, cases_numbered, cases_fine, field_spans, field_entries, field_writings, fields_same, fields_labels, fields_numbered, fields_fine}
 
 module _ (defs : Definitions) (slots : List Slot) (terms : List Term) (number : Term → TypeId) where
   abbrev E : Type 0

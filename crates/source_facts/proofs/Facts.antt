@@ -1,21 +1,20 @@
 -- What is known of each part of a tree, by its abstract syntax, what is found at its names, the names that occur in it, and its tokens.
-use Rattle.std.proofs.Common.{◌≡◌, ◌⊎◌, inl, inr, ℕ, suc, ◌+◌, ◌<◌, ◌≤◌, Bool, true, false, List, [], ◌∷◌, ◌++◌, map, Option, Some, None, refl, sym, ap, ap₂, ◌∙◌, subst, arith}
+use Rattle.std.proofs.Common.{◌≡◌, ◌⊎◌, ℕ, ◌+◌, ◌≤◌, Bool, true, false, List, [], ◌∷◌, ◌++◌, map, Some, None, refl, sym, ap, ap₂, ◌∙◌, subst, arith}
 use Rattle.std.specs.Prelude.{cond, not}
 use Rattle.std.specs.List.{list_any}
 use Rattle.std.specs.Str.{bytes_eq}
 use Rattle.mo_name_table.specs.Places.{texts}
 use Rattle.mo_pattern_names.specs.TypeNames.{Entry}
 use Rattle.mo_bindings.specs.ExpressionNames.{Declared, Whole, Member}
-use Rattle.mo_names.specs.Order.{Step, IsEarly, Found, FoundStep}
+use Rattle.mo_names.specs.Order.{Step, Found, FoundStep}
 use Rattle.mo_names.specs.Order as order
 use Rattle.mo_scopes.specs.declared.scope.Scope.{Scope}
 use Rattle.mo_scopes.specs.Findings.{Texts, Names, InScope}
 use Rattle.mo_syntax.specs.declared.name.Name.{Name}
-use Rattle.mo_syntax.specs.Parts.{Each}
 use Rattle.mo_syntax.specs.Writing.{Writing}
 use Rattle.mo_types.specs.declared.node.TypeId.{TypeId}
 use Rattle.mo_types.specs.Graph.{Slot}
-use Rattle.typing_rules.specs.AbstractSyntax.{Bytes, Expression, Cases, ObjectFields, Declaration}
+use Rattle.typing_rules.specs.AbstractSyntax.{Bytes, Cases, ObjectFields, Declaration}
 use Rattle.typing_rules.specs.AbstractSyntax as p
 use Rattle.typing_rules.specs.AbstractExpressions.{DeclarationSpan, ExpressionSpan, MemberSpan, CaseSpan, ObjectFieldSpan}
 use Rattle.typing_rules.specs.Definitions.{Bounded, Definition, Definitions}

@@ -1,18 +1,15 @@
 -- What follows where no rule on names is broken.
-use Rattle.std.proofs.Common.{◌≡◌, ◌≢◌, ◌⊎◌, inl, inr, ℕ, ◌==◌, Bool, true, false, ◌||◌, List, [], ◌∷◌, ◌++◌, map, Option, Some, None, refl, sym, ap, ◌∙◌, subst}
+use Rattle.std.proofs.Common.{◌≡◌, ◌≢◌, ℕ, Bool, true, false, ◌||◌, List, [], ◌∷◌, ◌++◌, map, refl, sym, ap, ◌∙◌, subst}
 use Rattle.std.specs.Prelude.{cond, nat_eq}
-use Rattle.std.specs.List.{list_any, flat_map}
 use Rattle.std.specs.Str.{bytes_eq}
 use Rattle.std.proofs.lemmas.Bool.{eq-eqb}
 use Rattle.std.proofs.lemmas.Slice.Eq.{bytes_eq-Decides}
 use Rattle.mo_name_table.specs.Places.{texts}
 use Rattle.mo_scopes.specs.declared.finding.Finding.{Finding}
-use Rattle.mo_scopes.specs.declared.finding.Finding.TheVariants as finding
 use Rattle.mo_scopes.specs.declared.rule.Rule.{Rule}
 use Rattle.mo_scopes.specs.declared.rule.Rule.TheVariants as rule
 use Rattle.mo_scopes.specs.Findings.{Names, Texts, contains, broken_where, behind, together, has_number, with_number, numbered_behind, labels}
 use Rattle.mo_syntax.specs.declared.place.Place.{Place}
-use Rattle.mo_syntax.specs.Parts.{Each}
 use Rattle.mo_types.specs.Label.{label_id}
 use Rattle.mo_types.specs.Sub.{Each as EachOf}
 use Rattle.typed_tree.specs.OperationTypes.{Distinct}

@@ -1,24 +1,23 @@
 -- Lists in which nothing is used before it is defined are in order, as their declarations are placed.
-use Rattle.std.proofs.Common.{◌≡◌, ◌⊎◌, inl, inr, ℕ, zero, suc, ◌+◌, ◌<◌, ◌≤◌, Bool, true, false, ◌||◌, List, [], ◌∷◌, ◌++◌, length, map, Option, Some, None, refl, sym, ap, ap₂, ◌∙◌, subst, arith}
-use Rattle.std.specs.List.{flat_map, list_any}
+use Rattle.std.proofs.Common.{◌≡◌, ◌⊎◌, inl, inr, ℕ, zero, suc, ◌+◌, ◌<◌, ◌≤◌, Bool, true, false, ◌||◌, List, [], ◌∷◌, ◌++◌, Some, refl, sym, ap, ap₂, ◌∙◌, subst, arith}
+use Rattle.std.specs.List.{flat_map}
 use Rattle.std.specs.Str.{bytes_eq}
 use Rattle.std.specs.Prelude.{IsTrue, nat_lt}
 use Rattle.std.proofs.lemmas.Bool.{ltb-true, ltb-false}
 use Rattle.std.proofs.lemmas.Slice.Eq.{bytes_eq-Decides}
 use Rattle.mo_name_table.specs.Places.{texts}
-use Rattle.mo_names.specs.Order.{Step, Uses, IsEarly, names_of_steps}
+use Rattle.mo_names.specs.Order.{Step, Uses, names_of_steps}
 use Rattle.mo_names.specs.Order as order
-use Rattle.mo_scopes.specs.Findings.{Texts, Names, contains}
+use Rattle.mo_scopes.specs.Findings.{Texts, Names}
 use Rattle.mo_syntax.specs.declared.name.Name.{Name}
-use Rattle.typed_tree.specs.Placing.{Declared, is_among}
+use Rattle.typed_tree.specs.Placing.{is_among}
 use Rattle.typing_rules.specs.AbstractSyntax.{Bytes, Declaration, Declarations}
 use Rattle.typing_rules.specs.AbstractSyntax as p
-use Rattle.desugaring.specs.FreeNames.{declared, names_of, names_of_list, function_name, defined_by, in_declaration, in_declarations}
-use Rattle.kernel_places.specs.Reaching.{at, Reaches, Hits}
+use Rattle.desugaring.specs.FreeNames.{declared, names_of_list, function_name, in_declaration, in_declarations}
+use Rattle.kernel_places.specs.Reaching.{at, Reaches}
 use Rattle.order_laws.specs.Ordered.{declareds, IsOrdered}
 use Rattle.source_facts.specs.Laws.{IsListFine}
 use Rattle.source_facts.proofs.Facts.{StepIs, both_same}
-use Rattle.source_facts.proofs.Patterns.{texts_both}
 
 -- each declaration stands so
 abbrev pub StepsAre : List Step → Declarations ℕ → Type 0

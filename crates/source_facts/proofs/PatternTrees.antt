@@ -1,5 +1,5 @@
 -- Induction over patterns and all that is read off them, layer by layer.
-use Rattle.std.proofs.Common.{◌≡◌, sym, subst}
+use Rattle.std.proofs.Common.{sym, subst}
 use Rattle.mo_syntax.specs.declared.patterns.Pattern.{Pattern, Pattern-F, ind-Pattern, roll-Pattern, map-Pattern}
 use Rattle.mo_syntax.specs.declared.patterns.PatternField.{PatternField, ind-PatternField, roll-PatternField, map-PatternField}
 use Rattle.mo_syntax.specs.declared.patterns.Pattern.TheOpen as F

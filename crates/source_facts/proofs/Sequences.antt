@@ -1,8 +1,7 @@
 -- Lists that are parts of lists, numbers that rise, and what holds of each.
-use Rattle.std.proofs.Common.{◌≡◌, ◌≢◌, ◌⊎◌, inl, inr, ℕ, suc, ◌+◌, ◌<◌, ◌≤◌, Bool, true, false, List, [], ◌∷◌, ◌++◌, map, refl, sym, ap, ◌∙◌, subst, arith}
+use Rattle.std.proofs.Common.{◌≡◌, ◌≢◌, ℕ, suc, ◌+◌, ◌<◌, ◌≤◌, List, [], ◌∷◌, ◌++◌, map, arith}
 use Rattle.mo_syntax.specs.Parts.{Each}
 use Rattle.mo_types.specs.Sub.{Each as EachOf}
-use Rattle.subtype_laws.specs.Reached.{Among}
 use Rattle.typed_tree.specs.OperationTypes.{Distinct}
 
 -- ---- of each

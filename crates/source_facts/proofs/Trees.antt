@@ -1,5 +1,5 @@
 -- Induction over trees and all that is read off them, layer by layer.
-use Rattle.std.proofs.Common.{◌≡◌, sym, subst}
+use Rattle.std.proofs.Common.{sym, subst}
 use Rattle.mo_syntax.specs.declared.declarations.Declaration.{Declaration, Declaration-F, ind-Declaration, roll-Declaration, map-Declaration}
 use Rattle.mo_syntax.specs.declared.expressions.Expression.{Expression, Expression-F, ind-Expression, roll-Expression, map-Expression}
 use Rattle.mo_syntax.specs.declared.declarations.DeclarationField.{DeclarationField, ind-DeclarationField, roll-DeclarationField, map-DeclarationField}

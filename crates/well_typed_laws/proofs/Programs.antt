@@ -25,12 +25,9 @@ use Rattle.typing_rules.specs.AbstractPrograms.{abstract}
 use Rattle.typing_rules.specs.AbstractSyntax.{Bytes, Program}
 use Rattle.typing_rules.specs.Answers.{answer, Comes}
 use Rattle.typing_rules.specs.DeclaredTypes.{with_list}
-use Rattle.typing_rules.specs.Expressions.{JudgeOrder, JudgeBodies}
 use Rattle.typing_rules.specs.Gathered.{gathered}
-use Rattle.typing_rules.specs.Judgements.{Judgement, Gives, Part}
-use Rattle.typing_rules.specs.Lists.{Listed}
 use Rattle.typing_rules.specs.Nodes.{nodes}
-use Rattle.typing_rules.specs.Programs.{first_context, actor_type, method_fields, made_program, JudgeFieldsOf, JudgeProgram}
+use Rattle.typing_rules.specs.Programs.{basics, first_context, actor_type, method_fields, made_program, own_name, own_types, JudgeFieldsOf, JudgeProgram}
 use Rattle.typing_rules.specs.Terms.{Term, unit, listed_fields}
 use Rattle.typing_rules.specs.Terms as t
 use Rattle.typing_rules.specs.TypedTrees.{Note}
@@ -38,13 +35,14 @@ use Rattle.typing_rules.specs.TypeScopes.{no_types}
 use Rattle.desugaring.specs.Programs.{count_behind, desugared}
 use Rattle.desugaring_laws.specs.Yields.{Yields}
 use Rattle.desugaring_laws.proofs.Graph.{head_there}
-use Rattle.desugaring_laws.proofs.Yielding.{anything, more, part, tests, yields_given}
+use Rattle.desugaring_laws.proofs.Yielding.{anything, tests, yields_given}
 use Rattle.expression_laws.proofs.Heads.{boolean_head, number_head}
 use Rattle.node_laws.proofs.ProgramNodes.{programs_are_covered}
 use Rattle.actor_laws.specs.Actors.{ActorMade}
 use Rattle.actor_laws.specs.Order.{public_functions, IsActorInOrder}
 use Rattle.program_laws.specs.Around.{method_wants, own_names, own_want}
 use Rattle.program_laws.proofs.Around.{AreAround, all_around}
+use Rattle.program_laws.proofs.Given.{AreThere, list_of_fields, of_fields}
 use Rattle.program_laws.proofs.Programs.{programs_are_made}
 use Rattle.program_laws.proofs.Standing.{actor_head, functions_differ, public_named}
 use Rattle.ending_laws.specs.Ending.{Ended, end_frame, written_out}
@@ -131,28 +129,39 @@ module _ (S : Setting) (units : Among unit S.terms) (flag : Among t.Boolean S.te
     nodes = programs_are_covered (place.defs S) S.number S.slots (made_program S.program S.q.1);
   }
 
+-- what is there of each type that is bound by the actor's name, is there of its own
+own_there : (P : Term → Type 0) (o : Option Bytes) (u : Term) → Each P (map (λ z. z.1.type) (own_name o u)) → (x : Bytes) → o ≡ Some x → P u
+own_there P None u h x e = let none : None ≡ Some x = e in cc
+own_there P (Some y) u h x e = h.0
+
 -- what a program comes to
 module _ (program : Program ℕ) (terms met : List Term) (made : Program Note) (by : Comes (gathered program) (JudgeProgram program) [] (answer (Ok made) met)) (all : (u : Term) → Among u met → Among u terms) where
   holds : (Q : Program Note → Type 0) → Yields (gathered program) terms (JudgeFieldsOf program) Q → Q made
   holds Q y =
       yields_given (gathered program) terms (JudgeProgram program) Q made [] met by all (tests (gathered program) terms condition.TooManyNodes 0 (nat_le (nodes program) 50000) (JudgeFieldsOf program) Q (λ e. y))
 
-  abbrev rest : Judgement (Program Note)
-  rest = Part (Listed (gathered program) (first_context program) program.fields (λ known. JudgeOrder (gathered program) known 0 false program.fields None None) (λ known ds. JudgeBodies (gathered program) known program.fields ds)) (λ q. Gives (made_program program q.1))
+  -- it has the types of all programs and its own, and its fields are those that were judged
+  abbrev Whole : Program Note → Type 0
+  Whole m = (m ≡ made_program program m.fields) × AreThere terms basics × AreThere terms (own_types program)
 
-  units : Among unit terms
-  units = holds (λ m. Among unit terms) (λ m. more (gathered program) terms rest (λ z. Unit {0}) (λ z. Among unit terms) (anything (gathered program) terms rest) (λ z i. m))
-
-  same : made ≡ made_program program made.fields
-  same =
-      holds (λ m. m ≡ made_program program m.fields) (λ m.
-      part (gathered program) terms (Listed (gathered program) (first_context program) program.fields (λ known. JudgeOrder (gathered program) known 0 false program.fields None None) (λ known ds. JudgeBodies (gathered program) known program.fields ds))
-      (λ q. Gives (made_program program q.1)) (λ q. Unit {0}) (λ z. z ≡ made_program program z.fields) (anything (gathered program) terms _) (λ q i. refl))
+  whole : Whole made
+  whole = holds Whole (of_fields terms program (λ q. Unit {0}) Whole (λ there. anything (gathered program) terms (list_of_fields program)) (λ q i there own. (refl, there, own)))
 
 pub programs_are_well_typed : ProgramsAreWellTyped
-programs_are_well_typed tree made typed slots terms number graph all has source =
+programs_are_well_typed tree made typed slots terms number graph all source =
     let program = abstract tree in
     let actor = holds program terms typed.met made typed.by all (λ m. (u : Term) × ActorMade (gathered program) slots terms number (first_context program) program.fields (u, m.fields)) (programs_are_made program slots terms number graph source.source) in
     let order = holds program terms typed.met made typed.by all (λ m. IsActorInOrder (gathered program) slots number (with_list no_types program.fields) (own_names program.name) program.fields m.fields) source.in_order in
-    let S : Setting = record { program = program; slots = slots; terms = terms; number = number; graph = graph; there = has.own; q = (actor.0, made.fields); m = actor.1; o = order } in
-    subst (λ m. WellTyped (desugared (gathered program) number slots m)) (sym (same program terms typed.met made typed.by all)) (well_typed S (units program terms typed.met made typed.by all) has.flag has.natural source.actor)
+    let it = whole program terms typed.met made typed.by all in
+    let S : Setting = record {
+      program = program;
+      slots = slots;
+      terms = terms;
+      number = number;
+      graph = graph;
+      there = own_there (λ u. Among u terms) program.name (actor_type program) it.2;
+      q = (actor.0, made.fields);
+      m = actor.1;
+      o = order;
+    } in
+    subst (λ m. WellTyped (desugared (gathered program) number slots m)) (sym it.0) (well_typed S it.1.0 it.1.1.0 it.1.1.1.0 source.actor)

@@ -1,20 +1,17 @@
--- What is asked of the source of a whole program. All of it but the types of the graph is shown by the front end, whose rules are named here.
-use Rattle.std.specs.Prelude.{◌≡◌, ◌≢◌, ◌⊎◌, ℕ, true, List, [], ◌∷◌, map, Some, codes}
-use Rattle.mo_num.specs.declared.kind.Kind.TheVariants as kind
+-- What is asked of the source of a whole program. All of it is shown by the front end, whose rules are named here.
+use Rattle.std.specs.Prelude.{◌≡◌, ◌≢◌, ◌⊎◌, ℕ, true, List, [], ◌∷◌, map, codes}
 use Rattle.mo_types.specs.declared.node.TypeId.{TypeId}
 use Rattle.mo_types.specs.Graph.{Slot}
 use Rattle.mo_types.specs.Label.{label_id}
 use Rattle.mo_types.specs.Sub.{Each}
 use Rattle.mo_types.specs.Values.{is_method_name}
-use Rattle.subtype_laws.specs.Reached.{Among}
 use Rattle.typed_tree.specs.OperationTypes.{Distinct}
 use Rattle.typing_rules.specs.AbstractSyntax.{Bytes, Declarations, Program}
 use Rattle.typing_rules.specs.AbstractSyntax as p
 use Rattle.typing_rules.specs.DeclaredTypes.{with_list}
 use Rattle.typing_rules.specs.Gathered.{gathered}
-use Rattle.typing_rules.specs.Programs.{actor_type, JudgeFieldsOf}
+use Rattle.typing_rules.specs.Programs.{JudgeFieldsOf}
 use Rattle.typing_rules.specs.Terms.{Term}
-use Rattle.typing_rules.specs.Terms as t
 use Rattle.typing_rules.specs.TypeScopes.{no_types}
 use Rattle.desugaring_laws.specs.Yields.{Yields}
 use Rattle.actor_laws.specs.Order.{public_functions, IsActorInOrder}
@@ -53,9 +50,3 @@ pub record IsWholeSource (slots : List Slot) (terms : List Term) (number : Term 
   -- names of the actor's list differ, and are used only where they stand (Twice, UsedBeforeDefined)
   pub in_order :
       Yields (gathered program) terms (JudgeFieldsOf program) (λ made. IsActorInOrder (gathered program) slots number (with_list no_types program.fields) (own_names program.name) program.fields made.fields)
-
--- the types that a typed program needs beside those that are met: Bool and Nat, and that of the actor, if it has a name
-pub record HasProgramTypes (program : Program ℕ) (terms : List Term) : Type 0 where
-  pub flag : Among t.Boolean terms
-  pub natural : Among (t.Number kind.Nat) terms
-  pub own : (x : Bytes) → program.name ≡ Some x → Among (actor_type program) terms

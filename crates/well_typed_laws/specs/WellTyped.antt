@@ -15,13 +15,13 @@ use Rattle.typing_rules.specs.TypedTrees.{Note}
 use Rattle.typing_rules.specs.AbstractSyntax.{Program}
 use Rattle.desugaring.specs.Programs.{desugared}
 use Rattle.desugaring_laws.specs.GraphOf.{IsGraphOf}
-use Rattle.well_typed_laws.specs.Source.{IsWholeSource, HasProgramTypes}
+use Rattle.well_typed_laws.specs.Source.{IsWholeSource}
 
--- A tree that is typed is written out to a well-typed program, over each graph that has the types that are met, and some others.
+-- A tree that is typed is written out to a well-typed program, over each graph that has the types that are met.
 abbrev pub ProgramsAreWellTyped : Type 0
 ProgramsAreWellTyped =
     (tree : Tree) (made : Program Note) (typed : TypedAs tree made) (slots : List Slot) (terms : List Term) (number : Term → TypeId) → IsGraphOf (gathered (abstract tree)) slots terms number → ((u : Term) → Among u typed.met → Among u terms)
-    → HasProgramTypes (abstract tree) terms → IsWholeSource slots terms number (abstract tree) → WellTyped (desugared (gathered (abstract tree)) number slots made)
+    → IsWholeSource slots terms number (abstract tree) → WellTyped (desugared (gathered (abstract tree)) number slots made)
 
 -- Of a graph with as many types as these terms, one that stands under the number of a term is its type: a term that is none of these has the number of no type.
 abbrev pub NumbersAreOfTypes : Type 0

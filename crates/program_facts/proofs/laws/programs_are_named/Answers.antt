@@ -1,0 +1,5 @@
+use Rattle.program_facts.proofs.Programs.{programs_are_named}
+use Rattle.program_facts.proofs.laws.programs_are_named.Goals as goal
+
+pub returns : goal.returns
+returns c = programs_are_named

@@ -1,0 +1,2 @@
+//! When a typed program is that of a syntax tree.
+#![tactic(auto)]
