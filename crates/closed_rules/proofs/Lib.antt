@@ -1,0 +1,5 @@
+pub mod Heads
+pub mod Members
+pub mod Operations
+pub mod Actions
+pub mod Constants

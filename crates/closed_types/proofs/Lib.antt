@@ -1,0 +1,10 @@
+pub mod Nodes
+pub mod Depthwise
+pub mod Substitution
+pub mod Alike
+pub mod Instances
+pub mod Arguments
+pub mod Numbering
+pub mod Expanded
+pub mod Environments
+pub mod Constants

@@ -1,0 +1,4 @@
+pub mod Closings
+pub mod Numbering
+pub mod Expanded
+pub mod Environments
