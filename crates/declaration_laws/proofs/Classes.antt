@@ -1,5 +1,5 @@
 -- Classes of lists.
-use Rattle.std.proofs.Common.{◌≡◌, ℕ, suc, ◌+◌, false, List, [], ◌∷◌, ◌++◌, map, Option, Some, None, refl, sym, ap, ◌∙◌, subst}
+use Rattle.std.proofs.Common.{◌≡◌, ℕ, suc, ◌+◌, false, List, [], ◌∷◌, ◌++◌, map, Some, None, refl, sym, ap, ◌∙◌, subst}
 use Rattle.mo_types.specs.declared.node.Node.TheVariants as node
 use Rattle.mo_types.specs.declared.node.Sort.TheVariants as sort
 use Rattle.mo_types.specs.declared.node.TypeId.{TypeId}
@@ -7,6 +7,7 @@ use Rattle.mo_types.specs.Graph.{Slot}
 use Rattle.subtype_laws.specs.Reached.{Among}
 use Rattle.typed_tree.specs.ActionTypes as typed
 use Rattle.typed_tree.specs.Instances.{IsAmong}
+use Rattle.typed_tree.specs.PatternTypes.{IsInScope}
 use Rattle.typed_tree.specs.Typing.{IsFunctionOf, in_body}
 use Rattle.typed_tree.proofs.Rules.{functions}
 use Rattle.typing_rules.specs.AbstractSyntax.{Named, Declarations}
@@ -23,6 +24,7 @@ use Rattle.typing_rules.specs.Nodes as counts
 use Rattle.typing_rules.specs.PublicFields.{PublicFields}
 use Rattle.typing_rules.specs.Signatures.{Taken, Parameters}
 use Rattle.typing_rules.specs.Terms.{Term, unit, listed, unlisted}
+use Rattle.typing_rules.specs.Terms as t
 use Rattle.typing_rules.specs.TypedTrees.{Note, signature}
 use Rattle.typing_rules.specs.TypeScopes.{TypeScope, names_of}
 use Rattle.desugaring.specs.Expressions.{becomes, pieces, public_names, object_of_names, function_of}
@@ -37,6 +39,7 @@ use Rattle.desugaring_laws.specs.Names.{bound_in_each}
 use Rattle.desugaring_laws.specs.Scopes.{IsScopeFine, AreBoundsIn}
 use Rattle.desugaring_laws.specs.Yields.{Yields}
 use Rattle.desugaring_laws.proofs.Graph.{in_scope, part_known, reflexive}
+use Rattle.desugaring_laws.proofs.Patterns.{each_append}
 use Rattle.desugaring_laws.proofs.Scoping.{each_among_of, written_fine}
 use Rattle.desugaring_laws.proofs.Yielding.{part as after}
 use Rattle.expression_laws.specs.Fitting.{Fits}
@@ -47,19 +50,19 @@ use Rattle.expression_laws.proofs.Wanting.{for_all}
 use Rattle.function_laws.specs.Laws.{AreParametersFine}
 use Rattle.function_laws.proofs.Functions.{body_fits}
 use Rattle.function_laws.proofs.InFunctions.{signature_of}
-use Rattle.function_laws.proofs.Parameters.{ParametersTyped, parameters_typed}
+use Rattle.function_laws.proofs.Parameters.{ParametersTyped, each_in_scope, parameters_typed}
 use Rattle.node_laws.proofs.ProgramNodes.{classes_are_covered}
 use Rattle.scope_laws.specs.Gathers.{Gathers, ArePlainFields}
 use Rattle.scope_laws.proofs.Bounding.{bounds_stay_in}
 use Rattle.scope_laws.proofs.Classes.{classes_are_objects}
-use Rattle.scope_laws.proofs.Parts.{left_part, right_part}
+use Rattle.scope_laws.proofs.Parts.{among_first, left_part, right_part}
 use Rattle.scope_laws.proofs.Plain.{public_fields_are_plain}
 use Rattle.scope_laws.proofs.Scoped.{parameters_stay_fine}
 use Rattle.declaration_laws.specs.Made.{AreFresh, AreThere, Standing, FunctionMade}
 use Rattle.declaration_laws.specs.Laws.{own_of}
 use Rattle.declaration_laws.specs.Objects.{FieldsJudged, written_fields, BecomeObject, AreFieldsTyped}
 use Rattle.declaration_laws.specs.Classes.{class_signature_at, ClassesAreTyped}
-use Rattle.declaration_laws.proofs.Functions.{are_parameters, last_among}
+use Rattle.declaration_laws.proofs.Functions.{are_parameters, last_among, parameters_in_scope}
 use Rattle.declaration_laws.proofs.Reading.{taken_written}
 
 no_result : (u : Term) → None ≡ Some u → ⊥
@@ -163,7 +166,11 @@ module _ (defs : Definitions) (slots : List Slot) (terms : List Term) (number : 
                 refl,
                 are_parameters setting e.types.parameters w.context.parameters (λ v m. each_among_of w.context.parameters (λ u. IsAmong u e.types.parameters) w.fits.types.others v m) (own_of g) fresh there,
                 (i.0 w).stand,
-                in_scope defs slots terms number graph (all w) result k.there k.fine.scoped,
+                (
+                  in_scope defs slots terms number graph (all w) result k.there k.fine.scoped,
+                  each_append (IsInScope slots (all w)) (map (λ v. number (t.Parameter v)) (own_of g)) (map number ps.types)
+                      (parameters_in_scope setting (all w) (bounds_fine w) (own_of g) (λ v m. among_first (own_of g) w.context.parameters v m) there) (each_in_scope setting (all w) ps.types (i.0 w).types_known),
+                ),
                 value.typed (number result) (reflexive defs slots terms number graph (number result)),
                 classes_are_covered defs number (InFrame w ps) result ps.patterns q.1,
               )),

@@ -11,7 +11,7 @@ use Rattle.typed_tree.specs.Wants.{Of}
 use Rattle.typing_rules.specs.AbstractSyntax.{Bytes}
 use Rattle.typing_rules.specs.Contexts.{Scope, Context, generic}
 use Rattle.typing_rules.specs.Definitions.{Definitions}
-use Rattle.typing_rules.specs.Terms.{Term, Terms, unit, listed}
+use Rattle.typing_rules.specs.Terms.{Term, unit, listed}
 use Rattle.typing_rules.specs.Terms as t
 use Rattle.desugaring.specs.Frames.{Frame, Exit, exit_from, exit, is_label, is_continued, is_optional, is_returned}
 use Rattle.desugaring_laws.specs.Known.{IsKnown}

@@ -4,12 +4,14 @@ use Rattle.mo_types.specs.declared.node.Node.TheVariants as node
 use Rattle.mo_types.specs.declared.node.Sort.TheVariants as sort
 use Rattle.mo_types.specs.declared.node.TypeId.{TypeId}
 use Rattle.mo_types.specs.Graph.{Slot, head_at}
+use Rattle.mo_types.specs.Sub.{Each}
 use Rattle.subtype_laws.specs.Reached.{Among}
 use Rattle.typed_tree.specs.ActionTypes as typed
 use Rattle.typed_tree.specs.Instances.{IsAmong}
+use Rattle.typed_tree.specs.PatternTypes.{IsInScope}
 use Rattle.typed_tree.specs.Typing.{AreParameters, IsFunctionOf, Typed, in_body}
 use Rattle.typed_tree.specs.Wants.{Of}
-use Rattle.typing_rules.specs.AbstractSyntax.{Named, Expression, Patterns}
+use Rattle.typing_rules.specs.AbstractSyntax.{Named, Expression}
 use Rattle.typing_rules.specs.AbstractSyntax as p
 use Rattle.typing_rules.specs.AsyncPlaces.{Local, Other}
 use Rattle.typing_rules.specs.Contexts.{Context, with_types}
@@ -36,8 +38,8 @@ use Rattle.desugaring_laws.specs.Laws.{wants}
 use Rattle.desugaring_laws.specs.Names.{bound_in_each}
 use Rattle.desugaring_laws.specs.Scopes.{IsScopeFine, AreBoundsIn}
 use Rattle.desugaring_laws.specs.Yields.{Yields}
-use Rattle.desugaring_laws.proofs.Graph.{head_there, part_known}
-use Rattle.desugaring_laws.proofs.Scoping.{each_among_of, written_fine}
+use Rattle.desugaring_laws.proofs.Graph.{head_there, in_scope, part_known}
+use Rattle.desugaring_laws.proofs.Scoping.{each_among_of, scoped_in, written_fine}
 use Rattle.desugaring_laws.proofs.Weakening.{among_behind}
 use Rattle.desugaring_laws.proofs.Yielding.{more, part as after}
 use Rattle.expression_laws.specs.Results.{Becomes, AreTyped}
@@ -79,6 +81,14 @@ module _ (S : Setting) where
       moved : IsAmong v gs ⊎ IsAmong v vs → IsAmong v (gs ++ scope)
       moved (inl m) = among_first gs scope v m
       moved (inr m) = among_behind gs scope v (sub v m)
+
+  -- they are in scope, with their bounds
+  pub parameters_in_scope : (vs : List ℕ) → AreBoundsIn vs S.defs → (gs : List ℕ) → ((v : ℕ) → IsAmong v gs → IsAmong v vs) → AreThere S.terms gs → Each (IsInScope S.slots vs) (map (λ n. S.number (t.Parameter n)) gs)
+  parameters_in_scope vs bounds [] sub there = tt
+  parameters_in_scope vs bounds (v ∷ gs) sub there = (
+    in_scope S.defs S.slots S.terms S.number S.graph vs (t.Parameter v) there.0 (scoped_in vs S.defs bounds (t.Parameter v) (sub v (inl refl))),
+    parameters_in_scope vs bounds gs (λ w m. sub w (inr m)) there.1,
+  )
 
 module _ (defs : Definitions) (slots : List Slot) (terms : List Term) (number : Term → TypeId) (graph : IsGraphOf defs slots terms number) (units : Among unit terms) (vs : List ℕ) (e : Context) (n : ℕ) (made : List Made) (x : Named) (g : p.Signature ℕ)
     (body : Expression ℕ) (fine : AreParametersFine g.parameters) (gathers : Gathers defs (of_generics (within e.types g) g.generics)) (fresh : AreFresh e.types.parameters (own_of g)) (there : AreThere terms (own_of g))
@@ -154,7 +164,8 @@ module _ (defs : Definitions) (slots : List Slot) (terms : List Term) (number : 
           λ w.
               subst (λ us. IsFunctionOf slots (function_of defs number sort.Local (signature g ps.patterns) (counts.in_patterns ps.patterns + counts.in_expression b) (λ q. written_out defs number q b) w.frame) w.context (signature_of defs slots terms number (own_of g) (map number us) (number result))) (sym (listed_back ps.types) ∙ ap (λ us. listed us) i.1)
               (function_typed setting e w.frame w.context uses w.fits (own_of g) inner (types_fine w) (bounds_fine w) g.parameters g ps (i.0 w) result (result_known w)
-              (are_parameters setting e.types.parameters w.context.parameters (λ v m. each_among_of w.context.parameters (λ u. IsAmong u e.types.parameters) w.fits.types.others v m) (own_of g) fresh there) b (h w)),
+              (are_parameters setting e.types.parameters w.context.parameters (λ v m. each_among_of w.context.parameters (λ u. IsAmong u e.types.parameters) w.fits.types.others v m) (own_of g) fresh there)
+              (parameters_in_scope setting (all w) (bounds_fine w) (own_of g) (λ v m. among_first (own_of g) w.context.parameters v m) there) b (h w)),
         ),
       )))
 

@@ -22,7 +22,7 @@ use Rattle.typed_tree.specs.PatternTypes as standing
 use Rattle.typed_tree.specs.Wants.{Want, Of, FutureOf}
 use Rattle.typed_tree.proofs.Rules.{steps}
 use Rattle.typed_tree.proofs.Views.{pattern_views}
-use Rattle.typing_rules.specs.AbstractSyntax.{Bytes, Pattern, TypeNode, Expression}
+use Rattle.typing_rules.specs.AbstractSyntax.{Bytes, Pattern, Expression}
 use Rattle.typing_rules.specs.AbstractSyntax as p
 use Rattle.typing_rules.specs.AsyncPlaces.{Body, Update, Query, Local, calls, Named, Other}
 use Rattle.typing_rules.specs.Contexts.{Bound, Scope, Context, constant, directly}

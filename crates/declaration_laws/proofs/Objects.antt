@@ -16,7 +16,7 @@ use Rattle.typed_tree.specs.Instances.{IsAmong}
 use Rattle.typed_tree.specs.Typing.{Typed}
 use Rattle.typed_tree.specs.Wants.{Want, Of}
 use Rattle.typed_tree.proofs.Rules.{steps}
-use Rattle.typing_rules.specs.AbstractSyntax.{Bytes, Named, Declarations}
+use Rattle.typing_rules.specs.AbstractSyntax.{Bytes, Declarations}
 use Rattle.typing_rules.specs.AbstractSyntax as p
 use Rattle.typing_rules.specs.AsyncPlaces.{Other}
 use Rattle.typing_rules.specs.Contexts.{Bound, Scope, Context, constant, directly}

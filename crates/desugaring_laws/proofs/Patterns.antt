@@ -24,7 +24,7 @@ use Rattle.typed_tree.specs.declared.pattern.PatternForm.TheOpen as P
 use Rattle.typed_tree.specs.declared.pattern.PatternField.{PatternField}
 use Rattle.typed_tree.specs.declared.pattern.TypedPattern.{TypedPattern}
 use Rattle.typed_tree.specs.Instances.{types_in, ParameterAmong, Mentions}
-use Rattle.typed_tree.specs.PatternTypes.{LiteralOf}
+use Rattle.typed_tree.specs.PatternTypes.{LiteralOf, IsPlainLiteral}
 use Rattle.typed_tree.specs.PatternTypes as typed
 use Rattle.typed_tree.specs.TypingLaws.{form_standing}
 use Rattle.typed_tree.specs.Wants.{Want, Of, Below}
@@ -214,6 +214,18 @@ module _ (defs : Definitions) (slots : List Slot) (terms : List Term) (number : 
       (λ e. (tt, leaf_there (number u) node.Bool (part.Flag false) (head_number defs slots terms number g u m ∙ ap (on_node number) (has_flags (head defs u) e)) tt))
   literal_stands at false p.Null u m w = tests defs terms _ _ (is_null (head defs u) || is_some (opt_of (head defs u))) _ _ (λ e. (tt, null_there u m e))
 
+  -- no actor is written in a pattern
+  written_plain : (minus : Bool) (l : Literal) (y : Node Term) → IsPlainLiteral (literal_at minus l y)
+  written_plain minus (p.Number n) y = tt
+  written_plain minus (p.Character c) y = tt
+  written_plain minus (p.Text x) y = by (is_blob y) where
+    by : (b : Bool) → IsPlainLiteral (if b then literal.Blob x else literal.Text x)
+    by true = tt
+    by false = tt
+  written_plain minus p.True y = tt
+  written_plain minus p.False y = tt
+  written_plain minus p.Null y = tt
+
   module _ (vs : List ℕ) (s : TypeScope) (written : AreWrittenFine defs terms vs s) where
     abbrev Known : Term → Type 0
     Known = IsKnown defs terms vs
@@ -245,7 +257,7 @@ module _ (defs : Definitions) (slots : List Slot) (terms : List Term) (number : 
     unit_stands : (u : Term) → Known u → tuple_of (head defs u) ≡ Some [] → typed.Stands slots vs (at_type defs number unit (P.Constant literal.Unit)) (number u) []
     unit_stands u k e =
         let there : head_at slots (number unit) ≡ node.Tuple [] = head_number defs slots terms number g unit units ∙ ap (on_node number) (unit_head defs) in
-        made unit (record { there = units; fine = unit_fine defs vs }) (P.Constant literal.Unit) [] (there, refl) (number u)
+        made unit (record { there = units; fine = unit_fine defs vs }) (P.Constant literal.Unit) [] (there, tt, refl) (number u)
         (units_below slots (number u) (number unit) (head_there u k (node.Tuple []) (is_tuple (head defs u) [] e)) there)
 
     record Each_ (us : List Term) (scope : Scope) (qs : Patterns Note) : Type 0 where
@@ -322,7 +334,7 @@ module _ (defs : Definitions) (slots : List Slot) (terms : List Term) (number : 
       stands_typed (p.pattern at p.Wildcard) w u k = record { stands = made u k P.Wildcard [] refl; scope_is = refl; known = tt }
       stands_typed (p.pattern at (p.Constant minus l)) w u k =
           after defs terms (LiteralStands at minus l (head defs u)) _ (Literally u minus l) (Is u) (literal_stands at minus l u k.there w) (λ x i. record {
-            stands = made u k (P.Constant (literal_at minus l (head defs u))) [] (i, refl);
+            stands = made u k (P.Constant (literal_at minus l (head defs u))) [] (i, written_plain minus l (head defs u), refl);
             scope_is = refl;
             known = tt;
           })

@@ -8,7 +8,7 @@ use Rattle.mo_syntax.specs.declared.types.Sharing.TheVariants as sharing
 use Rattle.mo_types.specs.Heads.{async_of}
 use Rattle.mo_types.specs.Sub.{Each}
 use Rattle.typed_tree.specs.Instances.{IsAmong, field_types, types_in, ParameterAmong, Mentions, MentionsOnly}
-use Rattle.typing_rules.specs.AbstractSyntax.{Bytes, Named, TypeNode, TypeNodes, TypeFields}
+use Rattle.typing_rules.specs.AbstractSyntax.{Bytes, TypeNode, TypeNodes, TypeFields}
 use Rattle.typing_rules.specs.AbstractSyntax as p
 use Rattle.typing_rules.specs.Definitions.{Definitions, definition_at, at_reached, found_of, parameters_of, followed, each_followed, reached, or_bottom, unfolded}
 use Rattle.typing_rules.specs.Heads.{results, shape, head}

@@ -13,6 +13,7 @@ use Rattle.typed_tree.specs.declared.expression.Step.{roll-Step}
 use Rattle.typed_tree.specs.ActionTypes as typed
 use Rattle.typed_tree.specs.Instances.{MentionsOnly}
 use Rattle.typed_tree.specs.OperationTypes.{Distinct}
+use Rattle.typed_tree.specs.PatternTypes.{IsInScope}
 use Rattle.typed_tree.specs.Typing.{AreParameters, IsFunctionOf, NameOf, Declares, Typed, in_body, with_names}
 use Rattle.typed_tree.specs.Wants.{Of}
 use Rattle.typed_tree.proofs.Rules.{functions, steps}
@@ -21,7 +22,7 @@ use Rattle.typing_rules.specs.declared.condition.Condition.TheVariants as condit
 use Rattle.typing_rules.specs.AbstractSyntax as p
 use Rattle.typing_rules.specs.AsyncPlaces.{Local, Other}
 use Rattle.typing_rules.specs.Calls.{local_of}
-use Rattle.typing_rules.specs.Contexts.{Context, directly, with_values, with_types}
+use Rattle.typing_rules.specs.Contexts.{Context, directly, with_types}
 use Rattle.typing_rules.specs.Contexts as rules
 use Rattle.typing_rules.specs.Ends.{wanted, Has}
 use Rattle.typing_rules.specs.Expressions.{Judge, Rule}
@@ -45,6 +46,7 @@ use Rattle.desugaring_laws.specs.Names.{bound_in_each, entered}
 use Rattle.desugaring_laws.specs.Scopes.{IsScopeFine, AreBoundsIn}
 use Rattle.desugaring_laws.specs.Yields.{Yields}
 use Rattle.desugaring_laws.proofs.Graph.{each_among, in_scope}
+use Rattle.desugaring_laws.proofs.Patterns.{each_append}
 use Rattle.desugaring_laws.proofs.Yielding.{more, tests, by_case, part as after}
 use Rattle.expression_laws.specs.Fitting.{Fits}
 use Rattle.expression_laws.specs.Results.{Becomes, AreTyped}
@@ -61,7 +63,7 @@ use Rattle.expression_laws.proofs.Wanting.{wanted_is}
 use Rattle.node_laws.proofs.ProgramNodes.{functions_are_covered}
 use Rattle.function_laws.specs.Laws.{AreParametersFine}
 use Rattle.function_laws.proofs.InFunctions.{behind_unnamed, signature_of, in_function_body}
-use Rattle.function_laws.proofs.Parameters.{ParametersTyped, parameters_typed}
+use Rattle.function_laws.proofs.Parameters.{ParametersTyped, each_in_scope, parameters_typed}
 
 is_local : (y : Node Term) (q : List Term × Term) → local_of y ≡ Some q → (rs : List Term) × (y ≡ node.Func sort.Local q.0 rs) × (q.1 ≡ result rs)
 is_local (node.Number k) q h = cc
@@ -124,16 +126,20 @@ module _ (S : Setting) where
 
     -- a function whose body is typed
     pub function_typed : (qs : Patterns ℕ) (g : Signature ℕ) (ps : Taken) → ParametersTyped S vs qs ps → (r : Term) → IsKnown S.defs S.terms vs r → AreParameters (head_at S.slots) c.parameters (map (λ n. S.number (t.Parameter n)) (places_of (scopes.names_of g.generics))) gs
+        → Each (IsInScope S.slots vs) (map (λ n. S.number (t.Parameter n)) (places_of (scopes.names_of g.generics)))
         → (b : Expression Note) → Typed S.slots (written_out S.defs S.number (Inner f ps.patterns) b) (C ps r) (Of (S.number r))
         → IsFunctionOf S.slots (function_of S.defs S.number sort.Local (signature g ps.patterns) (counts.in_patterns ps.patterns + counts.in_expression b) (λ inner. written_out S.defs S.number inner b) f) c
         (signature_of S.defs S.slots S.terms S.number gs (map S.number ps.types) (S.number r))
-    function_typed qs g ps i r k generics b h =
+    function_typed qs g ps i r k generics scoped b h =
         (functions S.slots _ c (signature_of S.defs S.slots S.terms S.number gs (map S.number ps.types) (S.number r))).1 (
           wants S.number (bound_in_each ps.patterns),
           refl,
           generics,
           i.stand,
-          in_scope S.defs S.slots S.terms S.number S.graph vs r k.there k.fine.scoped,
+          (
+            in_scope S.defs S.slots S.terms S.number S.graph vs r k.there k.fine.scoped,
+            each_append (IsInScope S.slots vs) (map (λ n. S.number (t.Parameter n)) (places_of (scopes.names_of g.generics))) (map S.number ps.types) scoped (each_in_scope S vs ps.types i.types_known),
+          ),
           h,
           functions_are_covered S.defs S.number (Inner f ps.patterns) ps.patterns b,
         )
@@ -187,6 +193,9 @@ module _ (S : Setting) (A : Place S) where
     no_parameters : AreParameters (head_at S.slots) A.context.parameters (map (λ v. S.number (t.Parameter v)) (places_of (scopes.names_of g.generics))) []
     no_parameters = subst (λ gs. AreParameters (head_at S.slots) A.context.parameters (map (λ v. S.number (t.Parameter v)) (places_of (scopes.names_of gs))) []) (sym none) tt
 
+    no_bounds : Each (IsInScope S.slots A.context.parameters) (map (λ v. S.number (t.Parameter v)) (places_of (scopes.names_of g.generics)))
+    no_bounds = subst (λ gs. Each (IsInScope S.slots A.context.parameters) (map (λ v. S.number (t.Parameter v)) (places_of (scopes.names_of gs)))) (sym none) tt
+
     -- behind the parameters and the result
     body_typed : (ps : Taken) → Taking ps → (r : Term) → Known S A r → Yields S.defs S.terms (Judge S.defs (rules.in_body Local (Some r) ps.scope Around) body (Some r)) (Ended ps r)
     body_typed ps i r kr =
@@ -201,7 +210,7 @@ module _ (S : Setting) (A : Place S) where
         more S.defs S.terms (Judge S.defs e body (Some r)) (Becomes S.defs S.slots S.terms S.number Other [] inner d (Some r)) (Ended ps r) (j e inner d inside_fits (Some r) kr.fine) (λ b h.
         has S A n w u (p.Function (signature g ps.patterns) b) (λ l. refl) k (λ m.
         alone_value ps.types r (function_known ps.types i.types_known r kr m) (function_of S.defs S.number sort.Local (signature g ps.patterns) (counts.in_patterns ps.patterns + counts.in_expression b) (λ q. written_out S.defs S.number q b))
-        (function_typed S Around F' c A.used fit [] A.known.types A.fits.types A.fits.bounds g.parameters g ps i r kr no_parameters b (as_wanted S [] inner d r b h))))
+        (function_typed S Around F' c A.used fit [] A.known.types A.fits.types A.fits.bounds g.parameters g ps i r kr no_parameters no_bounds b (as_wanted S [] inner d r b h))))
 
     -- with these types for parameters, and this one for a result, where none are written
     function_with : (us : List Term) → Each (Known S A) us → (v : Term) → Known S A v

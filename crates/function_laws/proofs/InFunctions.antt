@@ -9,12 +9,12 @@ use Rattle.typed_tree.specs.Typing.{Signature, in_body, with_names}
 use Rattle.typed_tree.specs.Wants.{Want, in_function}
 use Rattle.typing_rules.specs.AbstractSyntax.{Bytes}
 use Rattle.typing_rules.specs.AsyncPlaces.{Body, Local}
-use Rattle.typing_rules.specs.Contexts.{Context, Bound, Label, value_named, with_types}
+use Rattle.typing_rules.specs.Contexts.{Context, Bound, with_types}
 use Rattle.typing_rules.specs.Contexts as rules
 use Rattle.typing_rules.specs.Definitions.{Definitions}
 use Rattle.typing_rules.specs.Terms.{Term}
 use Rattle.typing_rules.specs.TypeScopes.{TypeScope}
-use Rattle.desugaring.specs.Frames.{Unnamed, Frame, Use, with_entries, found, exit, is_returned, Returned}
+use Rattle.desugaring.specs.Frames.{Unnamed, Frame, Use, with_entries, found}
 use Rattle.desugaring.specs.Frames as frames
 use Rattle.desugaring_laws.specs.Known.{IsKnown}
 use Rattle.desugaring_laws.specs.Scopes.{IsScopeFine, AreBoundsIn}

@@ -19,7 +19,7 @@ use Rattle.typed_tree.specs.Types.{IsLawfulNode}
 use Rattle.typed_tree.specs.Wants.{Below}
 use Rattle.typing_rules.specs.Definitions.{bound_at}
 use Rattle.typing_rules.specs.Heads.{head}
-use Rattle.typing_rules.specs.Terms.{Term, put_in, argument_or_itself, with_arguments, zipped}
+use Rattle.typing_rules.specs.Terms.{Term, put_in, argument_or_itself, zipped}
 use Rattle.typing_rules.specs.Terms as t
 use Rattle.desugaring_laws.specs.Known.{IsKnown}
 use Rattle.desugaring_laws.proofs.Graph.{head_number, parts_there, below_number, parameter_at}

@@ -1,10 +1,10 @@
 -- Parameters of functions.
 use Rattle.std.proofs.Common.{◌≡◌, ℕ, List, [], ◌∷◌, ◌++◌, map, Some, refl, ap₂, ◌∙◌, subst}
 use Rattle.mo_types.specs.Sub.{Each}
-use Rattle.typed_tree.specs.PatternTypes.{AllStand}
+use Rattle.typed_tree.specs.PatternTypes.{IsInScope, AllStand}
 use Rattle.typed_tree.specs.Wants.{Of}
 use Rattle.typing_rules.specs.declared.condition.Condition.TheVariants as condition
-use Rattle.typing_rules.specs.AbstractSyntax.{Bytes, Pattern, Patterns, TypeNode}
+use Rattle.typing_rules.specs.AbstractSyntax.{Pattern, Patterns}
 use Rattle.typing_rules.specs.AbstractSyntax as p
 use Rattle.typing_rules.specs.Contexts.{Scope}
 use Rattle.typing_rules.specs.Judgements.{Gives, Case, Given}
@@ -21,6 +21,7 @@ use Rattle.desugaring_laws.specs.Laws.{wants, AreWrittenFine, PatternTyped}
 use Rattle.desugaring_laws.specs.Names.{bound_names, bound_in_each, entered}
 use Rattle.desugaring_laws.specs.Written.{EachIsWritten}
 use Rattle.desugaring_laws.specs.Yields.{Yields}
+use Rattle.desugaring_laws.proofs.Graph.{in_scope}
 use Rattle.desugaring_laws.proofs.Patterns.{patterns_are_typed, beside, each_append, map_append}
 use Rattle.desugaring_laws.proofs.Yielding.{given, by_case, part as after}
 use Rattle.expression_laws.proofs.BoundNames.{names_kept, both}
@@ -37,6 +38,11 @@ module _ (S : Setting) (vs : List ℕ) where
     pub known : Each (λ x. Known x.1) (bound_in_each taken.patterns)
     pub types_known : Each Known taken.types
     pub same : names_in_each taken.patterns ≡ names_in_each qs
+
+  -- types that are known are in scope
+  pub each_in_scope : (us : List Term) → Each Known us → Each (IsInScope S.slots vs) (map S.number us)
+  each_in_scope [] k = tt
+  each_in_scope (u ∷ us) k = (in_scope S.defs S.slots S.terms S.number S.graph vs u k.0.there k.0.fine.scoped, each_in_scope us k.1)
 
   abbrev PatternIs : Pattern ℕ → Term → Scope × Pattern Note → Type 0
   PatternIs q u b = PatternTyped S.defs S.slots S.terms S.number vs u b.0 b.1 × (names_in b.1 ≡ names_in q)

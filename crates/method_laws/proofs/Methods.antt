@@ -13,7 +13,7 @@ use Rattle.typed_tree.specs.ActionTypes as typed
 use Rattle.typed_tree.specs.ActionTypes.{ResultOf}
 use Rattle.typed_tree.specs.Instances.{types_in}
 use Rattle.typed_tree.specs.OperationTypes.{Distinct}
-use Rattle.typed_tree.specs.PatternTypes.{AllStand}
+use Rattle.typed_tree.specs.PatternTypes.{IsInScope, AllStand}
 use Rattle.typed_tree.specs.Types.{IsLawfulNode}
 use Rattle.typed_tree.specs.Typing.{Typed}
 use Rattle.typed_tree.specs.Wants.{Of, in_function}
@@ -59,7 +59,7 @@ use Rattle.expression_laws.proofs.Heads.{listed_back}
 use Rattle.expression_laws.proofs.Naming.{names_of}
 use Rattle.expression_laws.proofs.Wanting.{for_all}
 use Rattle.node_laws.proofs.ProgramNodes.{functions_are_covered}
-use Rattle.function_laws.proofs.Parameters.{ParametersTyped, parameters_typed}
+use Rattle.function_laws.proofs.Parameters.{ParametersTyped, each_in_scope, parameters_typed}
 use Rattle.declaration_laws.proofs.Objects.{object_head}
 use Rattle.declaration_laws.proofs.Reading.{taken_written}
 use Rattle.block_laws.specs.Lists.{method_term}
@@ -227,7 +227,11 @@ module _ (defs : Definitions) (slots : List Slot) (terms : List Term) (number : 
                   tt,
                   subst (λ vs. AllStand slots vs (patterns defs number ps.patterns) (map number (listed (unlisted ps.types))) (wants number qs)) (sym w.parameters)
                       (subst (λ us. AllStand slots [] (patterns defs number ps.patterns) (map number us) (wants number qs)) (sym (listed_back ps.types)) (k w).stand),
-                  in_scope defs slots terms number graph w.context.parameters r (known_at w).there (known_at w).fine.scoped,
+                  (
+                    in_scope defs slots terms number graph w.context.parameters r (known_at w).there (known_at w).fine.scoped,
+                    subst (λ vs. Each (IsInScope slots vs) (map number (listed (unlisted ps.types)))) (sym w.parameters)
+                        (subst (λ us. Each (IsInScope slots []) (map number us)) (sym (listed_back ps.types)) (each_in_scope setting [] ps.types (k w).types_known)),
+                  ),
                   made,
                   omega (arith, functions_are_covered defs number G ps.patterns b),
                 );
@@ -287,7 +291,7 @@ module _ (defs : Definitions) (slots : List Slot) (terms : List Term) (number : 
                     refl,
                     tt,
                     refl,
-                    in_scope defs slots terms number graph w.context.parameters unit units (unit_at w).fine.scoped,
+                    (in_scope defs slots terms number graph w.context.parameters unit units (unit_at w).fine.scoped, tt),
                     h w,
                     omega (arith, functions_are_covered defs number (frames.in_function [] w.frame) p.Nil b),
                   ),

@@ -210,7 +210,7 @@ public = record {
     refl,
     refl,
     (rules.functions counter_types inc (behind counter end) asked).1
-        ([], sort_is, tt, refl, nat_in_scope [], increments_typed, covered),
+        ([], sort_is, tt, refl, (nat_in_scope [], tt), increments_typed, covered),
   );
 }
 

@@ -115,7 +115,7 @@ public_five c = record {
     refl,
     refl,
     (rules.functions types (body_of sort.Query (a_nat five)) c (asked sort.Query (a_nat five))).1
-        ([], sort_is sort.Query (a_nat five), tt, refl, in_scope c.parameters, five_fits (in_body (asked sort.Query (a_nat five)) [] c), five_covered),
+        ([], sort_is sort.Query (a_nat five), tt, refl, (in_scope c.parameters, tt), five_fits (in_body (asked sort.Query (a_nat five)) [] c), five_covered),
   );
 }
 

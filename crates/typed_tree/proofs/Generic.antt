@@ -1,4 +1,4 @@
--- An actor with a function that has a type parameter is well typed.
+-- An actor with a function that has a type parameter is well typed; a function is none of a type that mentions one which is not in scope.
 use Rattle.std.proofs.Common.{◌≡◌, ℕ, zero, suc, ◌+◌, List, [], ◌∷◌, pos, codes, slice_get, arith, inl, inr, refl, sym, ap, ◌∙◌, subst}
 use Rattle.std.proofs.lemmas.Int.{ints}
 use Rattle.mo_num.specs.declared.kind.Kind.TheVariants as kind
@@ -7,7 +7,7 @@ use Rattle.mo_types.specs.declared.node.Node.{Node}
 use Rattle.mo_types.specs.declared.node.Node.TheVariants as node
 use Rattle.mo_types.specs.declared.node.Sort.TheVariants as sort
 use Rattle.mo_types.specs.declared.node.TypeId.{TypeId}
-use Rattle.mo_types.specs.Graph.{node_of_slot, node_or_bottom, head_at}
+use Rattle.mo_types.specs.Graph.{Slot, node_of_slot, node_or_bottom, head_at}
 use Rattle.mo_types.specs.Sub.{Sub}
 use Rattle.typed_tree.specs.declared.expression.Form.{roll-Form, fold-roll-Form}
 use Rattle.typed_tree.specs.declared.expression.Form.TheOpen as F
@@ -19,9 +19,10 @@ use Rattle.typed_tree.specs.declared.pattern.PatternForm.{roll-PatternForm}
 use Rattle.typed_tree.specs.declared.pattern.PatternForm.TheOpen as P
 use Rattle.typed_tree.specs.declared.pattern.PatternForm.TheVariants as p
 use Rattle.typed_tree.specs.declared.program.Method.{Method}
+use Rattle.typed_tree.specs.declared.literal.Literal.TheVariants as literal
 use Rattle.typed_tree.specs.ActionTypes.{Context}
 use Rattle.typed_tree.specs.Basics.{HasBasics}
-use Rattle.typed_tree.specs.Examples.{nat, any, parameter, identity, on_nats, generic_types, Layer, number, bound_to, the_parameter, id, at_nat, calls, a_nat, body_of, method_of, uses_generic}
+use Rattle.typed_tree.specs.Examples.{nat, any, parameter, identity, on_nats, generic_types, forgets, on_strays, actor_pattern, Layer, number, bound_to, the_parameter, id, at_nat, calls, a_nat, body_of, method_of, uses_generic}
 use Rattle.typed_tree.specs.Instances.{Mentions, PutIn, IsInstance, AreWithinBounds}
 use Rattle.typed_tree.specs.Nodes.{StepNodes, form_step, step_step, case_step, function_step, expression_step, in_expression, in_step, in_pattern}
 use Rattle.typed_tree.specs.Patterns.{Bind, pattern_nodes}
@@ -30,7 +31,7 @@ use Rattle.typed_tree.specs.PatternView.{pattern, pattern_form}
 use Rattle.typed_tree.specs.Shareable.{Shares}
 use Rattle.typed_tree.specs.Types.{AreLawful, IsLawfulNode, HasNoFuture}
 use Rattle.typed_tree.specs.Typing.{Signature, with_names, in_body, Covers, Typed, Declares, OwnType, IsFunctionOf}
-use Rattle.typed_tree.specs.TypingLaws.{form_typing}
+use Rattle.typed_tree.specs.TypingLaws.{form_typing, function_typing}
 use Rattle.typed_tree.specs.Wants.{Want, Anything, Of, Generic, Below, Serves}
 use Rattle.typed_tree.specs.WellTyped.{WellTyped, IsPublic, sort_of, around, behind}
 use Rattle.typed_tree.proofs.Rules as rules
@@ -208,7 +209,7 @@ no_scope h = h
 
 id_is : IsFunctionOf generic_types (roll-Function id) end of_id
 id_is = (rules.functions generic_types id end of_id).1
-    (Of parameter ∷ [], refl, (any, refl, no_scope, tt), (Of parameter ∷ [], [], refl, pattern_stands, refl), parameter_in_scope, parameter_typed, id_covered)
+    (Of parameter ∷ [], refl, (any, refl, no_scope, tt), (Of parameter ∷ [], [], refl, pattern_stands, refl), (parameter_in_scope, (parameter_in_scope, (parameter_in_scope, tt))), parameter_typed, id_covered)
 
 declared : Declares generic_types (roll-Step (F.Functions (roll-Function id ∷ []))) outside (Generic (7 ∷ []) identity ∷ [])
 declared = (rules.steps generic_types (F.Functions (roll-Function id ∷ [])) outside (Generic (7 ∷ []) identity ∷ [])).1
@@ -287,7 +288,7 @@ public = record {
     refl,
     refl,
     (rules.functions generic_types (body_of sort.Query calls) (behind uses_generic end) asked).1
-        ([], sort_is, tt, refl, nat_in_scope [], calls_typed, covered),
+        ([], sort_is, tt, refl, (nat_in_scope [], tt), calls_typed, covered),
   );
 }
 
@@ -312,3 +313,19 @@ generic_is_well_typed = record {
   stable_labels = tt;
   nodes = list_covered;
 }
+
+-- ---- what is refused
+
+mentions_none : Mentions head [] (suc zero) parameter → ⊥
+unfolding Mentions
+mentions_none h = h.0
+
+pub stray_is_refused : (c : Context) → c.parameters ≡ [] → IsFunctionOf generic_types (roll-Function forgets) c on_strays → ⊥
+stray_is_refused c none h =
+    let f : function_typing generic_types forgets c on_strays = (rules.functions generic_types forgets c on_strays).0 h in
+    mentions_none (subst (λ vs. Mentions head vs (suc zero) parameter) none (f.4.1.0.1.by (suc zero)))
+
+pub actor_is_refused : (types : List Slot) (vs : List ℕ) (t u : TypeId) (x : List ℕ) (ns : List (Want TypeId)) → Stands types vs (actor_pattern u x) t ns → ⊥
+actor_is_refused types vs t u x ns h =
+    let f = (rules.patterns types vs (record { of_type = u; form = roll-PatternForm (P.Constant (literal.Actor x)) }) t ns).0 h in
+    ((rules.pattern_forms types vs (P.Constant (literal.Actor x)) u ns).0 f.2).1

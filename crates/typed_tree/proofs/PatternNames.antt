@@ -78,7 +78,7 @@ module _ (types : List Slot) (vs : List ℕ) where
       length ns ≡ names (form_view (map-PatternForm K0 K1 K2 PatternForm PatternField TypedPattern (λ z. z.0) (λ z. z.0) (λ z. z.0) y))
   form_counted P.Wildcard t ns h = ap length h
   form_counted P.Bind t ns h = ap length h
-  form_counted (P.Constant l) t ns h = ap length h.1 ∙ sym (literal_has_none l)
+  form_counted (P.Constant l) t ns h = ap length h.2 ∙ sym (literal_has_none l)
   form_counted (P.Present p) t ns h = p.1 h.0 ns h.2
   form_counted (P.Tagged l p) t ns h = p.1 h.1.part ns h.4
   form_counted (P.Parts ps) t ns h = each_counted ps h.0 ns h.2

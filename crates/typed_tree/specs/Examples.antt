@@ -22,6 +22,7 @@ use Rattle.typed_tree.specs.declared.pattern.PatternForm.TheOpen as P
 use Rattle.typed_tree.specs.declared.pattern.PatternField.{PatternField}
 use Rattle.typed_tree.specs.declared.program.Method.{Method}
 use Rattle.typed_tree.specs.declared.program.Program.{Program}
+use Rattle.typed_tree.specs.Typing.{Signature}
 
 abbrev pub nat : TypeId
 nat = record { index = 0 }
@@ -149,6 +150,18 @@ the_parameter = roll-TypedExpression (record { of_type = parameter; form = roll-
 
 abbrev pub id : F.Function-F Form Step Case Function TypedExpression
 id = record { sort = sort.Local; type_parameters = parameter ∷ []; nodes = 1; parameters = roll-TypedPattern (bound_to parameter) ∷ []; body = the_parameter }
+
+-- `func (x : Any) : Nat { 5 }`
+abbrev pub forgets : F.Function-F Form Step Case Function TypedExpression
+forgets = record { sort = sort.Local; type_parameters = []; nodes = 1; parameters = roll-TypedPattern (bound_to any) ∷ []; body = a_nat (number 5) }
+
+-- `T -> Nat`, where T is not in scope
+abbrev pub on_strays : Signature
+on_strays = record { sort = sort.Local; generics = []; context = []; parameters = parameter ∷ []; result = nat }
+
+-- `actor "..."` as a pattern
+abbrev pub actor_pattern : TypeId → List ℕ → TypedPattern
+actor_pattern t x = roll-TypedPattern (record { of_type = t; form = roll-PatternForm (P.Constant (literal.Actor x)) })
 
 -- id at Nat
 abbrev pub at_nat : TypedExpression

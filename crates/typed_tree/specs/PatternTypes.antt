@@ -36,6 +36,11 @@ abbrev pub LiteralOf : (TypeId → Node TypeId) → Literal → TypeId → Type 
 LiteralOf head literal.Unit t = IsUnit head t
 LiteralOf head l t = IsLeafPart (literal_part l) × IsPartOf (head t) (literal_part l)
 
+-- a literal that a pattern may have, which is no actor
+abbrev pub IsPlainLiteral : Literal → Type 0
+IsPlainLiteral (literal.Actor x) = ⊥
+IsPlainLiteral l = Unit {0}
+
 -- names of patterns one after another
 abbrev pub Beside : List (Want TypeId) → (List (Want TypeId) → Type 0) → (List (Want TypeId) → Type 0) → Type 0
 Beside ns first others = (ms ls : List (Want TypeId)) × (ns ≡ ms ++ ls) × first ms × others ls
@@ -55,7 +60,7 @@ module _ (types : List Slot) (parameters : List ℕ) (Form Labelled Whole : Type
   abbrev pub form_rule : P.PatternForm-F Form Labelled Whole → Standing
   form_rule P.Wildcard t ns = ns ≡ []
   form_rule P.Bind t ns = ns ≡ Of t ∷ []
-  form_rule (P.Constant l) t ns = LiteralOf (head_at types) l t × (ns ≡ [])
+  form_rule (P.Constant l) t ns = LiteralOf (head_at types) l t × IsPlainLiteral l × (ns ≡ [])
   form_rule (P.Present p) t ns = (u : TypeId) × (head_at types t ≡ node.Opt u) × Is p u ns
   form_rule (P.Tagged l p) t ns = (fs : List (Field TypeId)) × (f : Field TypeId) × (head_at types t ≡ node.Variant fs) × (find l fs ≡ Some f) × Is p f.part ns
   form_rule (P.Parts ps) t ns = (ts : List TypeId) × (head_at types t ≡ node.Tuple ts) × EachStands Is ps ts ns

@@ -8,6 +8,7 @@ use Rattle.mo_types.specs.declared.node.Sort.{Sort}
 use Rattle.mo_types.specs.declared.node.Sort.TheVariants as sort
 use Rattle.mo_types.specs.declared.node.TypeId.{TypeId}
 use Rattle.mo_types.specs.Graph.{Slot, head_at}
+use Rattle.mo_types.specs.Sub.{Each}
 use Rattle.typed_tree.specs.declared.expression.Form.{Form, rec-Form}
 use Rattle.typed_tree.specs.declared.expression.Form.TheOpen as F
 use Rattle.typed_tree.specs.declared.expression.Case.{Case, rec-Case}
@@ -159,10 +160,12 @@ module _ (types : List Slot) (Fo St Ca Fu Ex : Type 0) (whole : Ex → TypedExpr
   abbrev pub case_rule : F.Case-F Fo St Ca Fu Ex → Choosing
   case_rule x c t w = (ns : List (Want TypeId)) × Stands types c.parameters x.pattern t ns × Is x.body (with_names ns c) w
 
+  -- Its type mentions no type parameters but its own and those in scope, and neither do the bounds of its own.
   abbrev pub function_rule : F.Function-F Fo St Ca Fu Ex → Being
   function_rule x c s =
       (ns : List (Want TypeId)) × (s.sort ≡ x.sort) × AreParameters (head_at types) c.parameters x.type_parameters s.generics
-      × AllStand types (s.generics ++ c.parameters) x.parameters s.parameters ns × IsInScope types (s.generics ++ c.parameters) s.result
+      × AllStand types (s.generics ++ c.parameters) x.parameters s.parameters ns
+      × Each (IsInScope types (s.generics ++ c.parameters)) (s.result ∷ x.type_parameters ++ s.parameters)
       × Is x.body (in_body s ns c) (Of s.result) × Covers x.nodes (in_patterns x.parameters + in_expression (whole x.body))
 
   -- what a node gives is of its own type, and serves where something is wanted

@@ -23,6 +23,6 @@ pub use pattern::{PatternField, PatternForm, TypedPattern};
 pub use program::{Method, Program, StableVariable};
 pub use rows::{
     orders_are_as_wanted, patterns_are_as_wanted, small_actors_are_judged,
-    values_inside_are_as_wanted,
+    small_functions_are_judged, values_inside_are_as_wanted,
 };
 pub use signature::{StableField, StableSig, stable_sig};

@@ -1,10 +1,17 @@
 //! Rows, computed: what the definitions say is what the language manual or another implementation says.
-ghost use Rattle.std.specs.Prelude.{◌≡◌};
+ghost use Rattle.std.specs.Prelude.{[], ◌≡◌, List, ℕ};
+ghost use Rattle.mo_types.specs.Graph.{Slot};
+ghost use Rattle.mo_types.specs.declared.node.TypeId.{TypeId};
+ghost use Rattle.typed_tree.specs.declared.expression.Function.{roll-Function};
 ghost use Rattle.typed_tree.specs.declared.expression.TypedExpression.{TypedExpression};
-ghost use Rattle.typed_tree.specs.Examples.{answers_five, answers_text, counter, local_method, query_waits, uses_generic};
+ghost use Rattle.typed_tree.specs.ActionTypes.{Context};
+ghost use Rattle.typed_tree.specs.Examples.{actor_pattern, answers_five, answers_text, counter, forgets, generic_types, local_method, on_strays, query_waits, uses_generic};
 ghost use Rattle.typed_tree.specs.HasRows.{asked, wanted_inside};
 ghost use Rattle.typed_tree.specs.PatternRows.{answers, first_cases, wanted, wanted_weights, weights};
 ghost use Rattle.typed_tree.specs.PlacingRows.{orders, wanted_orders};
+ghost use Rattle.typed_tree.specs.PatternTypes.{Stands};
+ghost use Rattle.typed_tree.specs.Typing.{IsFunctionOf};
+ghost use Rattle.typed_tree.specs.Wants.{Want};
 ghost use Rattle.typed_tree.specs.WellTyped.{WellTyped};
 
 /// Which case is the first that matches, and what its names stand for; what it costs to try patterns.
@@ -33,4 +40,11 @@ pub fn small_actors_are_judged()
     ensures text { WellTyped answers_text → ⊥ }
     ensures waiting { (e : TypedExpression) → WellTyped (query_waits e) → ⊥ }
     ensures local { WellTyped local_method → ⊥ }
+{}
+
+/// `func (x : Any) : Nat { 5 }` is a function of no type that mentions a type parameter which is not in scope, and an actor is no literal of
+/// a pattern.
+pub fn small_functions_are_judged()
+    ensures stray { (c : Context) → c.parameters ≡ [] → IsFunctionOf generic_types (roll-Function forgets) c on_strays → ⊥ }
+    ensures pattern { (types : List Slot) → (vs : List ℕ) → (t : TypeId) → (u : TypeId) → (x : List ℕ) → (ns : List (Want TypeId)) → Stands types vs (actor_pattern u x) t ns → ⊥ }
 {}
