@@ -19,12 +19,14 @@ use Rattle.mo_scopes.specs.declared.rule.Breach.{Breach}
 use Rattle.mo_names.specs.declared.fault.NameFault.{NameFault}
 use Rattle.mo_names.specs.Bound.{Bound, Breaks, Comes, fault_at, fault_of, rank}
 use Rattle.typing_rules.specs.declared.condition.Condition.{Condition}
-use Rattle.typing_rules.specs.AbstractSyntax.{Program}
+use Rattle.typed_tree.specs.declared.program.Program.{Program}
+use Rattle.typing_rules.specs.AbstractSyntax as p
 use Rattle.typing_rules.specs.AbstractPrograms.{abstract}
 use Rattle.typing_rules.specs.Answers.{Fault, fault as false_at}
 use Rattle.typing_rules.specs.TypedTrees.{Note}
 use Rattle.typing_rules.specs.Programs.{TypedAs}
 use Rattle.typing_rules.proofs.OneAnswer.{program_one}
+use Rattle.tree_programs.specs.Programs.{IsProgramOf}
 use Rattle.mo_front.specs.declared.fault.FrontFault.{FrontFault}
 use Rattle.mo_front.specs.declared.fault.FrontFault.TheVariants as fault
 use Rattle.mo_front.specs.FaultNames.{name_name}
@@ -151,9 +153,12 @@ one_untyped tokens tree c e p q h k =
     let faults : false_at c h.number ≡ false_at e k.number = cc in
     (ap (λ (f : Fault). f.condition) faults, h.place_is ∙ (ap (λ (f : Fault). token_start tokens f.place) faults ∙ sym k.place_is))
 
-typed_or_not : (tokens : List Token) (tree : Tree) (p : Program Note) (c : Condition) (q : ℕ) → TypedAs tree p → IsUntyped tokens tree c q → ⊥
-typed_or_not tokens tree p c q h k =
-    let same : Ok p ≡ Err (false_at c k.number) = program_one (abstract tree) (Ok p) (Err (false_at c k.number)) h k.refused in
+typed : (tree : Tree) (p : Program) (h : IsProgramOf tree p) → TypedAs tree h.judged
+typed tree p h = record { met = h.met; by = h.comes }
+
+typed_or_not : (tokens : List Token) (tree : Tree) (made : p.Program Note) (c : Condition) (q : ℕ) → TypedAs tree made → IsUntyped tokens tree c q → ⊥
+typed_or_not tokens tree made c q h k =
+    let same : Ok made ≡ Err (false_at c k.number) = program_one (abstract tree) (Ok made) (Err (false_at c k.number)) h k.refused in
     absurd (cc)
 
 -- ---- the source
@@ -161,18 +166,20 @@ typed_or_not tokens tree p c q h k =
 same_tree : (source : List ℕ) (a b : List Token) (x y : Tree) → HasTokens source a → HasTokens source b → HasTree a x → HasTree b y → x ≡ y
 same_tree source a b x y h k m n = tree_same b x y (subst (λ (t : List Token). HasTree t x) (tokens_same source a b h k) m) n
 
-pub one_program : (source : List ℕ) (p q : Program Note) → Accepted source p → Accepted source q → p ≡ q
+pub one_program : (source : List ℕ) (p q : Program) (h : Accepted source p) (k : Accepted source q) → h.typed.judged ≡ k.typed.judged
 one_program source p q h k =
     let t : h.tree ≡ k.tree = same_tree source h.tokens k.tokens h.tree k.tree h.lexed k.lexed h.parsed k.parsed in
-    let same : Ok p ≡ Ok q = program_one (abstract k.tree) (Ok p) (Ok q) (rw t at h.typed) k.typed in
+    let there : TypedAs k.tree h.typed.judged = subst (λ (x : Tree). TypedAs x h.typed.judged) t (typed h.tree p h.typed) in
+    let same : Ok h.typed.judged ≡ Ok k.typed.judged = program_one (abstract k.tree) (Ok h.typed.judged) (Ok k.typed.judged) there (typed k.tree q k.typed) in
     cc
 
-pub either : (source : List ℕ) (p : Program Note) (f : FrontFault) → Accepted source p → RefusedBy source f → f ≡ fault.Memory
+pub either : (source : List ℕ) (p : Program) (f : FrontFault) → Accepted source p → RefusedBy source f → f ≡ fault.Memory
 either source p (fault.Lex f) h r = absurd (no_tokens source h.tokens f h.lexed r)
 either source p (fault.Parse f) h r = absurd (no_tree r.tokens h.tree f (subst (λ (t : List Token). HasTree t h.tree) (tokens_same source h.tokens r.tokens h.lexed r.lexed) h.parsed) r.none)
 either source p (fault.Name f) h r = absurd (not_bound r.tree f (subst Bound (same_tree source h.tokens r.tokens h.tree r.tree h.lexed r.lexed h.parsed r.parsed) h.bound) r.unbound)
 either source p (fault.Type c place) h r =
-    absurd (typed_or_not r.tokens r.tree p c place (subst (λ (t : Tree). TypedAs t p) (same_tree source h.tokens r.tokens h.tree r.tree h.lexed r.lexed h.parsed r.parsed) h.typed) r.untyped)
+    absurd (typed_or_not r.tokens r.tree h.typed.judged c place
+    (subst (λ (t : Tree). TypedAs t h.typed.judged) (same_tree source h.tokens r.tokens h.tree r.tree h.lexed r.lexed h.parsed r.parsed) (typed h.tree p h.typed)) r.untyped)
 either source p fault.Memory h r = refl
 
 module _ (source : List ℕ) where

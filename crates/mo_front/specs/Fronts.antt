@@ -1,5 +1,5 @@
 -- When a source is accepted, and when it is refused.
-use Rattle.std.specs.Prelude.{◌≡◌, ◌≤◌, ℕ, List, length, Result, Ok, Err}
+use Rattle.std.specs.Prelude.{◌≡◌, ◌≤◌, ◌<◌, ℕ, List, length, Result, Ok, Err}
 use Rattle.mo_syntax.specs.declared.token.Token.{Token}
 use Rattle.mo_syntax.specs.declared.program.Tree.{Tree}
 use Rattle.mo_syntax.specs.Lexed.{Lexed}
@@ -9,15 +9,16 @@ use Rattle.mo_parser_base.specs.Input.{kinds}
 use Rattle.mo_depth.specs.Depth.{AreShallow, IsDeepAt}
 use Rattle.mo_parser.specs.declared.fault.ParseFault.{ParseFault}
 use Rattle.mo_parser.specs.declared.fault.ParseFault.TheVariants as parse
-use Rattle.mo_parser.specs.Answers.{IsPlace, SpellNone}
+use Rattle.mo_parser.specs.Answers.{IsPlace, IsStart, SpellNone}
 use Rattle.mo_scopes.specs.declared.rule.Breach.{Breach}
 use Rattle.mo_names.specs.declared.fault.NameFault.{NameFault}
 use Rattle.mo_names.specs.Bound.{Bound, Breaks, First, fault_of}
 use Rattle.typing_rules.specs.declared.condition.Condition.{Condition}
-use Rattle.typing_rules.specs.AbstractSyntax.{Program}
+use Rattle.typed_tree.specs.declared.program.Program.{Program}
+use Rattle.typed_tree.specs.WellTyped.{WellTyped}
 use Rattle.typing_rules.specs.Answers.{fault as false_at}
-use Rattle.typing_rules.specs.Programs.{TypedAs, Refused}
-use Rattle.typing_rules.specs.TypedTrees.{Note}
+use Rattle.typing_rules.specs.Programs.{Refused}
+use Rattle.tree_programs.specs.Programs.{IsProgramOf}
 use Rattle.mo_front.specs.declared.fault.FrontFault.{FrontFault}
 use Rattle.mo_front.specs.declared.fault.FrontFault.TheVariants as fault
 use Rattle.mo_front.specs.FaultNames.{name_name}
@@ -33,14 +34,14 @@ pub record HasTree (tokens : List Token) (tree : Tree) : Type 0 where
   pub shallow : AreShallow (length tokens) tokens
   pub spelled : Spells tree (kinds tokens)
 
--- The source has tokens, they have a tree, its names are bound, and it is typed so.
-pub record Accepted (source : List ℕ) (made : Program Note) : Type 0 where
+-- The source has tokens, they have a tree, its names are bound, and it is typed: this is the program that it is written out to.
+pub record Accepted (source : List ℕ) (made : Program) : Type 0 where
   pub tokens : List Token
   pub tree : Tree
   pub lexed : HasTokens source tokens
   pub parsed : HasTree tokens tree
   pub bound : Bound tree
-  pub typed : TypedAs tree made
+  pub typed : IsProgramOf tree made
 
 -- ---- why it is not
 
@@ -88,10 +89,27 @@ RefusedBy source (fault.Name f) = Unbound source f
 RefusedBy source (fault.Type c place) = Untyped source c place
 RefusedBy source fault.Memory = Unit {0}
 
--- what is answered to a source, by how contracts see what is made
-abbrev pub Answers : {M : Type 0} → (M → Program Note) → List ℕ → Result M FrontFault → Type 0
-Answers seen source (Ok made) = Accepted source (seen made)
-Answers seen source (Err f) = RefusedBy source f
+-- what is answered to a source
+abbrev pub Answers : List ℕ → Result Program FrontFault → Type 0
+Answers source (Ok made) = Accepted source made
+Answers source (Err f) = RefusedBy source f
+
+-- ---- that what is given is well typed
+
+abbrev pub AcceptedAreWellTyped : Type 0
+AcceptedAreWellTyped = (source : List ℕ) (made : Program) → Accepted source made → WellTyped made
+
+-- ---- that a fault of typing is at a token
+
+-- One of the source's tokens starts there.
+pub record StartsToken (source : List ℕ) (place : ℕ) : Type 0 where
+  pub tokens : List Token
+  pub lexed : HasTokens source tokens
+  pub start : IsStart place tokens
+  pub within : place < length source
+
+abbrev pub FaultsOfTypingStartTokens : Type 0
+FaultsOfTypingStartTokens = (source : List ℕ) (c : Condition) (place : ℕ) → RefusedBy source (fault.Type c place) → StartsToken source place
 
 -- ---- that a source has one answer
 

@@ -4,9 +4,8 @@ use Rattle.mo_syntax.specs.declared.token.Token.{Token}
 use Rattle.mo_syntax.specs.declared.program.Tree.{Tree}
 use Rattle.mo_lexer.specs.Faults.{Faults}
 use Rattle.mo_names.specs.Bound.{Bound}
-use Rattle.typing_rules.specs.AbstractSyntax.{Program}
-use Rattle.typing_rules.specs.Programs.{TypedAs}
-use Rattle.typing_rules.specs.TypedTrees.{Note}
+use Rattle.typed_tree.specs.declared.program.Program.{Program}
+use Rattle.tree_programs.specs.Programs.{IsProgramOf}
 use Rattle.mo_front.specs.declared.fault.FrontFault.{FrontFault}
 use Rattle.mo_front.specs.declared.fault.FrontFault.TheVariants as fault
 use Rattle.mo_front.specs.Fronts.{HasTokens, HasTree, IsUnbound, IsUntyped, NoTree}
@@ -35,9 +34,9 @@ BindsNames tree (Err (fault.Name f)) = IsUnbound tree f
 BindsNames tree (Err (fault.Type c place)) = ⊥
 BindsNames tree (Err fault.Memory) = Unit {0}
 
-module _ {M : Type 0} (seen : M → Program Note) (tokens : List Token) where
-  abbrev pub FindsTypes : Tree → Result M FrontFault → Type 0
-  FindsTypes tree (Ok made) = TypedAs tree (seen made)
+module _ (tokens : List Token) where
+  abbrev pub FindsTypes : Tree → Result Program FrontFault → Type 0
+  FindsTypes tree (Ok made) = IsProgramOf tree made
   FindsTypes tree (Err (fault.Lex f)) = ⊥
   FindsTypes tree (Err (fault.Parse f)) = ⊥
   FindsTypes tree (Err (fault.Name f)) = ⊥
@@ -46,16 +45,16 @@ module _ {M : Type 0} (seen : M → Program Note) (tokens : List Token) where
 
   -- ---- from here on
 
-  abbrev pub OfTree : Tree → Result M FrontFault → Type 0
-  OfTree tree (Ok made) = Bound tree × TypedAs tree (seen made)
+  abbrev pub OfTree : Tree → Result Program FrontFault → Type 0
+  OfTree tree (Ok made) = Bound tree × IsProgramOf tree made
   OfTree tree (Err (fault.Lex f)) = ⊥
   OfTree tree (Err (fault.Parse f)) = ⊥
   OfTree tree (Err (fault.Name f)) = IsUnbound tree f
   OfTree tree (Err (fault.Type c place)) = Bound tree × IsUntyped tokens tree c place
   OfTree tree (Err fault.Memory) = Unit {0}
 
-  abbrev pub OfTokens : Result M FrontFault → Type 0
-  OfTokens (Ok made) = (tree : Tree) × HasTree tokens tree × Bound tree × TypedAs tree (seen made)
+  abbrev pub OfTokens : Result Program FrontFault → Type 0
+  OfTokens (Ok made) = (tree : Tree) × HasTree tokens tree × Bound tree × IsProgramOf tree made
   OfTokens (Err (fault.Lex f)) = ⊥
   OfTokens (Err (fault.Parse f)) = NoTree tokens f
   OfTokens (Err (fault.Name f)) = (tree : Tree) × HasTree tokens tree × IsUnbound tree f

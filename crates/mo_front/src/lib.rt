@@ -7,6 +7,8 @@ mod lines;
 mod reading;
 
 pub use fault::FrontFault;
-pub use laws::a_source_has_one_answer;
+pub use laws::{
+    a_source_has_one_answer, accepted_programs_are_well_typed, faults_of_typing_start_tokens,
+};
 pub use lines::line_and_column;
-pub use reading::front;
+pub use reading::{front, token_start};

@@ -1,20 +1,20 @@
 //! The layers in turn.
 ghost use Rattle.std.specs.Prelude.{◌≡◌, IfOk};
-ghost use Rattle.met_types.specs.States.{Kept};
-ghost use Rattle.program_rules.specs.Decided.{program_in};
+ghost use Rattle.typed_tree.specs.WellTyped.{WellTyped};
 ghost use Rattle.mo_front.specs.Fronts.{Answers};
 ghost use Rattle.mo_front.specs.Layers.{BindsNames, FindsTokens, FindsTree, FindsTypes, OfTokens, OfTree};
 ghost use Rattle.mo_front.specs.Places.{token_start};
 
 use crate::fault::FrontFault;
-use mo_check::{TypeFault, check};
+use mo_check::TypeFault;
 use mo_lexer::{LexFault, lex};
 use mo_names::NameFault;
 use mo_order::resolve;
 use mo_parser::{ParseFault, parse};
 use mo_syntax::{Token, Tokens, Tree};
-use program_rules::TypedProgram;
 use std::alloc::Global;
+use typed_programs::typed_program;
+use typed_tree::Program;
 
 fn tokens_of(alloc: Global, source: &[u8]) -> Result<Tokens, FrontFault>
     ensures { FindsTokens source.now result }
@@ -47,7 +47,7 @@ fn bind_names(alloc: Global, tree: &Tree) -> Result<(), FrontFault>
 }
 
 /// Where the token of this number starts.
-fn token_start(tokens: &[Token], number: u32) -> u32
+pub fn token_start(tokens: &[Token], number: u32) -> u32
     ensures { result ≡ token_start tokens.now number }
 {
     match tokens.get(number as usize) {
@@ -56,11 +56,10 @@ fn token_start(tokens: &[Token], number: u32) -> u32
     }
 }
 
-fn types_of(alloc: Global, tokens: &[Token], tree: &Tree) -> Result<TypedProgram, FrontFault>
-    ensures answer { FindsTypes program_in tokens.now tree.now result }
-    ensures kept { IfOk result (λ made. Kept made.types) }
+fn types_of(alloc: Global, tokens: &[Token], tree: &Tree) -> Result<Program, FrontFault>
+    ensures { FindsTypes tokens.now tree.now result }
 {
-    match check(alloc, tree) {
+    match typed_program(alloc, tree) {
         Ok(made) => Ok(made),
         Err(TypeFault::Memory) => Err(FrontFault::Memory),
         Err(TypeFault::False { place, condition }) => {
@@ -70,17 +69,15 @@ fn types_of(alloc: Global, tokens: &[Token], tree: &Tree) -> Result<TypedProgram
     }
 }
 
-fn read_tree(alloc: Global, tokens: &[Token], tree: &Tree) -> Result<TypedProgram, FrontFault>
-    ensures answer { OfTree program_in tokens.now tree.now result }
-    ensures kept { IfOk result (λ made. Kept made.types) }
+fn read_tree(alloc: Global, tokens: &[Token], tree: &Tree) -> Result<Program, FrontFault>
+    ensures { OfTree tokens.now tree.now result }
 {
     bind_names(alloc, tree)?;
     types_of(alloc, tokens, tree)
 }
 
-fn read_tokens(alloc: Global, tokens: &[Token]) -> Result<TypedProgram, FrontFault>
-    ensures answer { OfTokens program_in tokens.now result }
-    ensures kept { IfOk result (λ made. Kept made.types) }
+fn read_tokens(alloc: Global, tokens: &[Token]) -> Result<Program, FrontFault>
+    ensures { OfTokens tokens.now result }
 {
     let tree = tree_of(alloc, tokens)?;
     read_tree(alloc, tokens, &tree)
@@ -88,9 +85,9 @@ fn read_tokens(alloc: Global, tokens: &[Token]) -> Result<TypedProgram, FrontFau
 
 /// The typed program of a source, exactly where it is accepted, or else the fault of the first layer that refuses it, with its place in bytes.
 /// The recursion is as deep as the tree, which the parser limits. Want of memory refuses nothing.
-pub fn front(alloc: Global, source: &[u8]) -> Result<TypedProgram, FrontFault>
-    ensures answer { Answers program_in source.now result }
-    ensures kept { IfOk result (λ made. Kept made.types) }
+pub fn front(alloc: Global, source: &[u8]) -> Result<Program, FrontFault>
+    ensures answer { Answers source.now result }
+    ensures well_typed { IfOk result WellTyped }
 {
     let tokens = tokens_of(alloc, source)?;
     read_tokens(alloc, tokens.as_slice())
