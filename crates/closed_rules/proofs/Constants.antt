@@ -42,7 +42,7 @@ module _ (f : TypeId → TypeId) where
   abbrev Stay : List TypeId → Type 0
   Stay ts = Each (λ t. f t ≡ t) ts
 
-  map_stays : (ts : List TypeId) → Stay ts → map f ts ≡ ts
+  pub map_stays : (ts : List TypeId) → Stay ts → map f ts ≡ ts
   map_stays [] h = refl
   map_stays (t ∷ ts) h = ap₂ (λ u us. u ∷ us) h.0 (map_stays ts h.1)
 
@@ -85,9 +85,13 @@ all_there all [] i h = tt
 all_there all (s ∷ slots) zero h = parts_there (length all) (node_of s) h.0
 all_there all (s ∷ slots) (suc i) h = all_there all slots i h.1
 
+-- what stands in a type of a graph has a number of the graph
+pub parts_within : (types : List Slot) → AreLawful types → (t : TypeId) → Each (λ u. u.index < length types) (types_in (head_at types t))
+parts_within types lawful t = all_there types types t.index lawful.defined
+
 module _ (types : List Slot) (first : ℕ) (past : length types ≤ first) (lawful : AreLawful types) where
   -- a shareable type that is behind no number of the program
-  abbrev IsConstant : TypeId → Type 0
+  abbrev pub IsConstant : TypeId → Type 0
   IsConstant t = IsShareable (head_at types) t × (t.index < first)
 
   earlier : (ts : List TypeId) → Each (λ t. t.index < length types) ts → Each (λ t. t.index < first) ts
@@ -107,7 +111,7 @@ module _ (types : List Slot) (first : ℕ) (past : length types ≤ first) (lawf
   all_stay [] h = tt
   all_stay (t ∷ ts) h = (stays t h.0, all_stay ts h.1)
 
-  parts_constant : (t : TypeId) → IsConstant t → Each IsConstant (types_in (head_at types t))
+  pub parts_constant : (t : TypeId) → IsConstant t → Each IsConstant (types_in (head_at types t))
   parts_constant t c =
       both_hold (IsShareable (head_at types)) (λ u. u.index < first) (types_in (head_at types t)) (parts_shareable (head_at types) (λ u. (lawful.nodes u).0) t c.0).1
       (earlier (types_in (head_at types t)) (all_there types types t.index lawful.defined))
@@ -123,7 +127,7 @@ module _ (types : List Slot) (first : ℕ) (past : length types ≤ first) (lawf
   abbrev f : TypeId → TypeId
   f t = close_in types first [] t
 
-  result_stays : (rs : List TypeId) (r : TypeId) → Each IsConstant rs → ResultOf (head_at types) rs r → ResultOf (expanded types first) rs (f r)
+  pub result_stays : (rs : List TypeId) (r : TypeId) → Each IsConstant rs → ResultOf (head_at types) rs r → ResultOf (expanded types first) rs (f r)
   result_stays [] r h e = at (head_at types) (expanded types first) (closing types first past []) r (node.Tuple []) e refl
   result_stays (s ∷ []) r h e = sym (stays s h.0) ∙ ap f e
   result_stays (s ∷ u ∷ rs) r h e =
@@ -143,7 +147,7 @@ module _ (types : List Slot) (first : ℕ) (past : length types ≤ first) (lawf
   abbrev Shared : TypeId → List TypeId → List TypeId → Type 0
   Shared t ps rs = (head_at types t ≡ node.Func sort.Shared ps rs) ⊎ (head_at types t ≡ node.Func sort.Query ps rs)
 
-  constants : (t : TypeId) (ps rs : List TypeId) → Shared t ps rs → Each IsConstant (ps ++ rs)
+  pub constants : (t : TypeId) (ps rs : List TypeId) → Shared t ps rs → Each IsConstant (ps ++ rs)
   constants t ps rs (inl e) = shared_parts t sort.Shared ps rs e (λ l. l)
   constants t ps rs (inr e) = shared_parts t sort.Query ps rs e (λ l. l)
 

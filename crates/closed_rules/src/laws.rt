@@ -5,13 +5,16 @@ ghost use Rattle.mo_types.specs.declared.node.TypeId.{TypeId};
 ghost use Rattle.mo_types.specs.Graph.{Slot, head_at};
 ghost use Rattle.mo_subtype.specs.Renamed.{on_node};
 ghost use Rattle.mo_values.specs.declared.operation.Operation.{Operation};
+ghost use Rattle.mo_values.specs.Equality.{equal};
+ghost use Rattle.mo_values.specs.Shapes.{Shape};
 ghost use Rattle.typed_tree.specs.declared.action.Action.{Action};
 ghost use Rattle.typed_tree.specs.declared.action.Action.TheVariants as action;
 ghost use Rattle.typed_tree.specs.declared.action.Member.{Member};
 ghost use Rattle.typed_tree.specs.ActionTypes.{ActionTyped, Context};
 ghost use Rattle.typed_tree.specs.MemberTypes.{MemberTyped};
 ghost use Rattle.typed_tree.specs.OperationTypes.{OperationTyped};
-ghost use Rattle.typed_tree.specs.Shareable.{IsShareable};
+ghost use Rattle.typed_tree.specs.Opening.{Code};
+ghost use Rattle.typed_tree.specs.Shareable.{IsComparable, IsShareable};
 ghost use Rattle.typed_tree.specs.Types.{AreLawful};
 ghost use Rattle.typed_tree.specs.Wants.{Want};
 ghost use Rattle.closed_types.specs.Closings.{Closing};
@@ -42,4 +45,11 @@ pub fn calls_of_shared_functions_stay()
 /// A type of a program whose values go into messages has the same head among the closed types.
 pub fn shareable_types_stay()
     ensures { (types : List Slot) (first : ℕ) → length types ≤ first → AreLawful types → (t : TypeId) → IsShareable (head_at types) t → t.index < first → expanded types first t ≡ head_at types t }
+{}
+
+/// Values are equal at a type of a program where they are so at what the type comes to where nothing is put in, also if it is
+/// no type of the graph; and values are compared there.
+pub fn equality_stays()
+    ensures compared { (types : List Slot) (first : ℕ) → length types ≤ first → AreLawful types → (t : TypeId) → IsComparable (head_at types) t → IsComparable (expanded types first) (close_in types first [] t) }
+    ensures same { (types : List Slot) (first : ℕ) → length types ≤ first → AreLawful types → (t : TypeId) → IsComparable (head_at types) t → (v w : Shape Code) → equal (head_at types) t v w ≡ equal (expanded types first) (close_in types first [] t) v w }
 {}

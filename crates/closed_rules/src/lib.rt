@@ -5,6 +5,6 @@
 mod laws;
 
 pub use laws::{
-    actions_are_closed, calls_of_shared_functions_stay, members_are_closed, operations_are_closed,
-    shareable_types_stay,
+    actions_are_closed, calls_of_shared_functions_stay, equality_stays, members_are_closed,
+    operations_are_closed, shareable_types_stay,
 };

@@ -14,6 +14,7 @@ use Rattle.mo_soundness.specs.Examples.{basic_head, nat, no_calls, sum}
 use Rattle.mo_soundness.specs.Keeps.{closed}
 use Rattle.mo_soundness.specs.Lawful.{IsLawful}
 use Rattle.mo_soundness.specs.Running.{Typed}
+use Rattle.mo_soundness.specs.Worlds.{plain_world}
 use Rattle.mo_soundness.proofs.Wanted.{reflexive}
 
 own : (i : ℕ) → OwnLabels (basic_head (at i))
@@ -46,7 +47,7 @@ one_nat = (omega (arith, ints), omega (arith, ints))
 nat_self : IsSubtype basic_head nat nat
 nat_self = reflexive basic_head basic_lawful nat
 
-pub sum_typed : Typed basic_head no_calls [] (closed []) sum (Of nat)
+pub sum_typed : Typed (plain_world basic_head) no_calls [] (closed []) sum (Of nat)
 sum_typed = (
   Of nat,
   ((tt, one_nat), tt),

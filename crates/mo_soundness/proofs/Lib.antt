@@ -12,6 +12,7 @@ pub mod Characters
 pub mod Members
 pub mod Steps
 pub mod Going
+pub mod Meets
 pub mod Graphs
 pub mod Circle
 pub mod Reached

@@ -12,6 +12,7 @@ use Rattle.mo_soundness.specs.Keeps.{IsLonger, IsNoValue, Keeps, closed}
 use Rattle.mo_soundness.specs.Lawful.{IsLawful}
 use Rattle.mo_soundness.specs.Reached.{Reaches, Here, On, Printing}
 use Rattle.mo_soundness.specs.Running.{AnswerTypes, StoreTyped, Typed}
+use Rattle.mo_soundness.specs.Worlds.{World}
 use Rattle.mo_soundness.proofs.Members.{members_keep}
 use Rattle.mo_soundness.proofs.More.{longer_self}
 use Rattle.mo_soundness.proofs.Steps.{keeps}
@@ -27,17 +28,17 @@ prints_none : (head : TypeId → Node TypeId) (store : Store) (e f : Exp) (cost 
 prints_none head store (Val v) f cost text q = absurd (let z : Stuck ≡ Prints cost text f = q in cc)
 prints_none head store e f cost text q = tt
 
-module _ (head : TypeId → Node TypeId) (lawful : IsLawful head) (answers : AnswerTypes) (w : Want TypeId) where
-  kept : (kinds : List TypeId) (store : Store) (e : Exp) → IsNoValue e → StoreTyped head answers kinds store kinds → Typed head answers kinds (closed []) e w → Keeps head answers kinds [] w (reduce head None store e)
-  kept kinds store e n s h = keeps head lawful answers kinds (members_keep head lawful answers kinds) None store s e [] w n h tt
+module _ (world : World) (lawful : IsLawful world.head) (answers : AnswerTypes) (w : Want TypeId) where
+  kept : (kinds : List TypeId) (store : Store) (e : Exp) → IsNoValue e → StoreTyped world answers kinds store kinds → Typed world answers kinds (closed []) e w → Keeps world answers kinds [] w (reduce world.meant None store e)
+  kept kinds store e n s h = keeps world lawful answers kinds (members_keep world lawful answers kinds) None store s e [] w n h tt
 
-  pub reached : (kinds : List TypeId) (store last : Store) (e g : Exp) → StoreTyped head answers kinds store kinds → Typed head answers kinds (closed []) e w → Reaches head store e last g
-      → (more : List TypeId) × IsLonger kinds more × StoreTyped head answers more last more × Typed head answers more (closed []) g w
+  pub reached : (kinds : List TypeId) (store last : Store) (e g : Exp) → StoreTyped world answers kinds store kinds → Typed world answers kinds (closed []) e w → Reaches world.meant store e last g
+      → (more : List TypeId) × IsLonger kinds more × StoreTyped world answers more last more × Typed world answers more (closed []) g w
   reached kinds store last e g s h Here = (kinds, longer_self kinds, s, h)
   reached kinds store last e g s h (On {next = next} {f = f} {cost = cost} q r) =
-      let k = subst (λ a. Keeps head answers kinds [] w a) q (kept kinds store e (goes_none head store next e f cost q) s h) in
+      let k = subst (λ a. Keeps world answers kinds [] w a) q (kept kinds store e (goes_none world.meant store next e f cost q) s h) in
       let l = reached k.0 next last f g k.2 k.3 r in
       (l.0, longer kinds k.0 l.0 k.1 l.1, l.2, l.3)
   reached kinds store last e g s h (Printing {f = f} {cost = cost} {text = text} q r) =
-      let k = subst (λ a. Keeps head answers kinds [] w a) q (kept kinds store e (prints_none head store e f cost text q) s h) in
+      let k = subst (λ a. Keeps world answers kinds [] w a) q (kept kinds store e (prints_none world.meant store e f cost text q) s h) in
       reached kinds store last f g s k.1 r

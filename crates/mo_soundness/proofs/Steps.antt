@@ -2,7 +2,6 @@
 use Rattle.std.proofs.Common.{◌≡◌, ◌⊎◌, inl, inr, ℕ, zero, suc, ◌+◌, List, [], ◌∷◌, ◌++◌, Bool, true, false, Option, Some, None, refl, sym, ap, subst, slice_get, arith}
 use Rattle.std.specs.Prelude.{codes}
 use Rattle.mo_types.specs.declared.datum.Datum.TheVariants as part
-use Rattle.mo_types.specs.declared.node.Node.{Node}
 use Rattle.mo_types.specs.declared.node.Node.TheVariants as node
 use Rattle.mo_types.specs.declared.node.Sort.TheVariants as sort
 use Rattle.mo_types.specs.declared.node.TypeId.{TypeId}
@@ -18,7 +17,7 @@ use Rattle.typed_tree.specs.ActionTypes.{IsError}
 use Rattle.typed_tree.specs.Has.{field_want, by_mutability}
 use Rattle.typed_tree.specs.Language.{Value, Made, NoValue, Exp, Exps, Cases, Functions, Val, Name, Do, If, Switch, Group, Frame, Label, While, Repeat, For, Try, Update, NoExp, AnExp, NoCase, ACase, NoFunction, AFunction, leaf, unit, then}
 use Rattle.typed_tree.specs.MemberTypes.{IsUnit, IsNumber}
-use Rattle.typed_tree.specs.Opening.{Code, shape_of, shapes_list, slots_of}
+use Rattle.typed_tree.specs.Opening.{Code, shape_of, value_of, shapes_list, slots_of}
 use Rattle.typed_tree.specs.OperationTypes.{IsBool}
 use Rattle.typed_tree.specs.Patterns.{Pat, matches}
 use Rattle.typed_tree.specs.Substitution.{put, group_of, group_nodes}
@@ -34,33 +33,34 @@ use Rattle.mo_soundness.specs.Keeps.{IsLonger, IsNoValue, closed, HasEach, Keeps
 use Rattle.mo_soundness.specs.Lawful.{IsLawful}
 use Rattle.mo_soundness.specs.RunningPatterns.{MayHold, PatternTyped}
 use Rattle.mo_soundness.specs.Running.{Around, Does, with_names, AnswerTypes, HasValue, Typed, EachTyped, CasesTyped, FunctionsTyped, StoreTyped}
+use Rattle.mo_soundness.specs.Worlds.{World}
 use Rattle.mo_soundness.proofs.Actions.{acts_keep}
 use Rattle.mo_soundness.proofs.Bodies.{natural_seen}
 use Rattle.mo_soundness.proofs.Calls.{MembersKeep, covers_group, keeps_sub}
 use Rattle.mo_soundness.proofs.Found.{unit_fits, flag_fits, error_fits, error_of, truth, HasNames, Matched, patterns, met}
 use Rattle.mo_soundness.proofs.Less.{has_sub}
 use Rattle.mo_soundness.proofs.More.{append_nil, longer_self, knows_self, has_grow, typed_grow, each_grow, cases_grow}
-use Rattle.mo_soundness.proofs.Put.{Covers, put_typed}
+use Rattle.mo_soundness.proofs.Put.{named, Covers, put_typed}
 use Rattle.mo_soundness.proofs.Wanted.{reflexive}
 
-module _ (head : TypeId → Node TypeId) (lawful : IsLawful head) (answers : AnswerTypes) (kinds : List TypeId) where
+module _ (world : World) (lawful : IsLawful world.head) (answers : AnswerTypes) (kinds : List TypeId) where
   abbrev Has : Want TypeId → Value → Type 0
-  Has = HasValue head answers kinds
+  Has = HasValue world answers kinds
 
   abbrev T : List TypeId → Exp → Want TypeId → Type 0
-  T ls e w = Typed head answers kinds (closed ls) e w
+  T ls e w = Typed world answers kinds (closed ls) e w
 
   abbrev Holds : Store → Type 0
-  Holds store = StoreTyped head answers kinds store kinds
+  Holds store = StoreTyped world answers kinds store kinds
 
   abbrev K : List TypeId → Want TypeId → Act → Type 0
-  K = Keeps head answers kinds
+  K = Keeps world answers kinds
 
   abbrev S : Option Given → Act → Type 0
-  S = Suits head answers kinds
+  S = Suits world answers kinds
 
   abbrev Grows : List TypeId → (Exp → Exp) → Want TypeId → Want TypeId → Type 0
-  Grows ls f u w = (more : List TypeId) (e : Exp) → IsLonger kinds more → Typed head answers more (closed ls) e u → Typed head answers more (closed ls) (f e) w
+  Grows ls f u w = (more : List TypeId) (e : Exp) → IsLonger kinds more → Typed world answers more (closed ls) e u → Typed world answers more (closed ls) (f e) w
 
   inside_keeps : (ls : List TypeId) (f : Exp → Exp) (u w : Want TypeId) → Grows ls f u w → (a : Act) → K ls u a → K ls w (inside f a)
   inside_keeps ls f u w h (Goes cost store e) s = (s.0, s.1, s.2, h s.0 e s.1 s.3)
@@ -119,24 +119,24 @@ module _ (head : TypeId → Node TypeId) (lawful : IsLawful head) (answers : Ans
 
   -- ---- matches
 
-  pub covers_names : (ns : List (Want TypeId)) (vs : List (Shape Code)) → HasNames head answers kinds ns vs → Covers head answers lawful kinds (slots_of vs) (ns ++ []) []
+  pub covers_names : (ns : List (Want TypeId)) (vs : List (Shape Code)) → HasNames world answers kinds ns vs → Covers world answers lawful kinds (slots_of vs) (ns ++ []) []
   covers_names [] [] h = refl
   covers_names [] (v ∷ vs) h = absurd h
   covers_names (w ∷ ns) [] h = absurd h
-  covers_names (w ∷ ns) (v ∷ vs) h = (refl, h.0, covers_names ns vs h.1)
+  covers_names (w ∷ ns) (v ∷ vs) h = (refl, named world answers kinds w (value_of v) h.0, covers_names ns vs h.1)
 
-  pub match_keeps : (ls : List TypeId) (w : Want TypeId) (store : Store) (cost : Cost) (ns : List (Want TypeId)) (e : Exp) (o : Option (List (Shape Code))) (a : Act) → Holds store → Matched head answers kinds ns o → Typed head answers kinds (with_names ns (closed ls)) e w → K ls w a
+  pub match_keeps : (ls : List TypeId) (w : Want TypeId) (store : Store) (cost : Cost) (ns : List (Want TypeId)) (e : Exp) (o : Option (List (Shape Code))) (a : Act) → Holds store → Matched world answers kinds ns o → Typed world answers kinds (with_names ns (closed ls)) e w → K ls w a
       → K ls w (on_match o (λ s. Goes cost store (put s e)) a)
   match_keeps ls w store cost ns e None a s m h i = i
-  match_keeps ls w store cost ns e (Some vs) a s m h i = (kinds, longer_self kinds, s, put_typed head answers lawful kinds e (slots_of vs) (ns ++ []) [] ls w (covers_names ns vs m) h)
+  match_keeps ls w store cost ns e (Some vs) a s m h i = (kinds, longer_self kinds, s, put_typed world answers lawful kinds e (slots_of vs) (ns ++ []) [] ls w (covers_names ns vs m) h)
 
-  cases_keep : (ls : List TypeId) (w : Want TypeId) (store : Store) (weight : ℕ) (v : Value) (a : Want TypeId) (cases : Cases) → Holds store → Has a v → CasesTyped head answers kinds (closed ls) cases a w → K ls w (first_case store weight v cases)
+  cases_keep : (ls : List TypeId) (w : Want TypeId) (store : Store) (weight : ℕ) (v : Value) (a : Want TypeId) (cases : Cases) → Holds store → Has a v → CasesTyped world answers kinds (closed ls) cases a w → K ls w (first_case store weight v cases)
   cases_keep ls w store weight v a NoCase s h c = tt
   cases_keep ls w store weight v a (ACase p e cases) s h c =
-      match_keeps ls w store (weighing (weight + trying p v)) c.0 e (matches p (shape_of v)) _ s (met head answers kinds lawful p a c.0 v c.1 h) c.2 (cases_keep ls w store (weight + trying p v) v a cases s h c.3)
+      match_keeps ls w store (weighing (weight + trying p v)) c.0 e (matches p (shape_of v)) _ s (met world answers kinds lawful p a c.0 v c.1 h) c.2 (cases_keep ls w store (weight + trying p v) v a cases s h c.3)
 
-  chosen_keeps : (ls : List TypeId) (w : Want TypeId) (store : Store) (t : TypeId) (v : Value) (a b : Exp) → Holds store → IsBool head t → Has (Of t) v → T ls a w → T ls b w → K ls w (chosen store v a b)
-  chosen_keeps ls w store t v a b s i h j k = let r = truth head answers kinds t v i h in subst (λ v. K ls w (chosen store v a b)) (sym r.1) (by r.0)
+  chosen_keeps : (ls : List TypeId) (w : Want TypeId) (store : Store) (t : TypeId) (v : Value) (a b : Exp) → Holds store → IsBool world.head t → Has (Of t) v → T ls a w → T ls b w → K ls w (chosen store v a b)
+  chosen_keeps ls w store t v a b s i h j k = let r = truth world answers kinds t v i h in subst (λ v. K ls w (chosen store v a b)) (sym r.1) (by r.0)
     where
       by : (f : Bool) → K ls w (chosen store (leaf (part.Flag f)) a b)
       by true = goes_keeps ls w store a 1 s j
@@ -147,13 +147,13 @@ module _ (head : TypeId → Node TypeId) (lawful : IsLawful head) (answers : Ans
 
   -- ---- what goes outward
 
-  leaves_keeps : (ls : List TypeId) (w : Want TypeId) (store : Store) (t k : TypeId) (v : Value) → Holds store → Serves head (Of t) w → Some t ≡ Some k → Has (Of k) v → K ls w (Goes (weighing 1) store (Val v))
-  leaves_keeps ls w store t k v s i q h = let same : t ≡ k = cc in goes_keeps ls w store (Val v) 1 s (has_sub head lawful answers kinds v (Of k) w h (subst (λ t. Serves head (Of t) w) same i))
+  leaves_keeps : (ls : List TypeId) (w : Want TypeId) (store : Store) (t k : TypeId) (v : Value) → Holds store → Serves world.head (Of t) w → Some t ≡ Some k → Has (Of k) v → K ls w (Goes (weighing 1) store (Val v))
+  leaves_keeps ls w store t k v s i q h = let same : t ≡ k = cc in goes_keeps ls w store (Val v) 1 s (has_sub world lawful answers kinds v (Of k) w h (subst (λ t. Serves world.head (Of t) w) same i))
 
   jump_typed : (ls : List TypeId) (w : Want TypeId) (l : ℕ) (t : TypeId) (v : Value) → slice_get ls l ≡ Some t → Has (Of t) v → T ls (Do (action.Break l) (one (Val v))) w
   jump_typed ls w l t v q h = inl (Of t ∷ [], inr (t, q, refl), (h, tt))
 
-  frame_keeps : (ls : List TypeId) (w : Want TypeId) (store : Store) (n : ℕ) (t : TypeId) → Holds store → Serves head (Of t) w → (a : Act) → K (t ∷ []) (Of t) a → K ls w (at_frame store n a)
+  frame_keeps : (ls : List TypeId) (w : Want TypeId) (store : Store) (n : ℕ) (t : TypeId) → Holds store → Serves world.head (Of t) w → (a : Act) → K (t ∷ []) (Of t) a → K ls w (at_frame store n a)
   frame_keeps ls w store n t s i (Goes cost after e) h = (h.0, h.1, h.2, (t, h.3, i))
   frame_keeps ls w store n t s i (Prints cost text e) h = (h.0, (t, h.1, i))
   frame_keeps ls w store n t s i (Asks r) h = h
@@ -164,7 +164,7 @@ module _ (head : TypeId → Node TypeId) (lawful : IsLawful head) (answers : Ans
   frame_keeps ls w store n t s i (Traps cost text) h = h
   frame_keeps ls w store n t s i Stuck h = h
 
-  label_keeps : (ls : List TypeId) (w : Want TypeId) (store : Store) (t : TypeId) → Holds store → Serves head (Of t) w → (a : Act) → K (t ∷ ls) (Of t) a → K ls w (at_label store a)
+  label_keeps : (ls : List TypeId) (w : Want TypeId) (store : Store) (t : TypeId) → Holds store → Serves world.head (Of t) w → (a : Act) → K (t ∷ ls) (Of t) a → K ls w (at_label store a)
   label_keeps ls w store t s i (Goes cost after e) h = (h.0, h.1, h.2, (t, h.3, i))
   label_keeps ls w store t s i (Prints cost text e) h = (h.0, (t, h.1, i))
   label_keeps ls w store t s i (Asks r) h = h
@@ -175,10 +175,10 @@ module _ (head : TypeId → Node TypeId) (lawful : IsLawful head) (answers : Ans
   label_keeps ls w store t s i (Traps cost text) h = h
   label_keeps ls w store t s i Stuck h = h
 
-  handler_keeps : (ls : List TypeId) (w : Want TypeId) (store : Store) (t : TypeId) (ns : List (Want TypeId)) (p : Pat) (b : Exp) → Holds store → IsError head t → PatternTyped head p t ns → Typed head answers kinds (with_names ns (closed ls)) b w
+  handler_keeps : (ls : List TypeId) (w : Want TypeId) (store : Store) (t : TypeId) (ns : List (Want TypeId)) (p : Pat) (b : Exp) → Holds store → IsError world.head t → PatternTyped world.head p t ns → Typed world answers kinds (with_names ns (closed ls)) b w
       → Grows ls (λ e. Try e p b) w w → (a : Act) → K ls w a → K ls w (at_handler store p b a)
   handler_keeps ls w store t ns p b s q h i k (Throws cost v) j =
-      match_keeps ls w store (weighing (cost.weight + trying p v)) ns b (matches p (shape_of v)) _ s (patterns head answers kinds lawful p t ns v h (error_fits head answers kinds t v q j.0)) i tt
+      match_keeps ls w store (weighing (cost.weight + trying p v)) ns b (matches p (shape_of v)) _ s (patterns world answers kinds lawful p t ns v h (error_fits world answers kinds t v q j.0)) i tt
   handler_keeps ls w store t ns p b s q h i k (Goes cost after e) j = inside_keeps ls (λ e. Try e p b) w w k (Goes cost after e) j
   handler_keeps ls w store t ns p b s q h i k (Prints cost text e) j = inside_keeps ls (λ e. Try e p b) w w k (Prints cost text e) j
   handler_keeps ls w store t ns p b s q h i k (Asks r) j = j
@@ -189,12 +189,12 @@ module _ (head : TypeId → Node TypeId) (lawful : IsLawful head) (answers : Ans
 
   -- ---- operands
 
-  one_more : (v : Value) (w : Want TypeId) (ws : List (Want TypeId)) (vs : List Value) → Has w v → {p : Option (List Value)} (o : Option (List Value)) → ((us : List Value) → p ≡ Some us → HasEach head answers kinds ws us) → p ≡ o → and_value v o ≡ Some vs → HasEach head answers kinds (w ∷ ws) vs
+  one_more : (v : Value) (w : Want TypeId) (ws : List (Want TypeId)) (vs : List Value) → Has w v → {p : Option (List Value)} (o : Option (List Value)) → ((us : List Value) → p ≡ Some us → HasEach world answers kinds ws us) → p ≡ o → and_value v o ≡ Some vs → HasEach world answers kinds (w ∷ ws) vs
   one_more v w ws vs h None f e q = absurd (let r : None ≡ Some vs = q in cc)
-  one_more v w ws vs h (Some us) f e q = subst (HasEach head answers kinds (w ∷ ws)) (let same : v ∷ us ≡ vs = cc in same) (h, f us e)
+  one_more v w ws vs h (Some us) f e q = subst (HasEach world answers kinds (w ∷ ws)) (let same : v ∷ us ≡ vs = cc in same) (h, f us e)
 
-  pub values_each : (ls : List TypeId) (es : Exps) (ws : List (Want TypeId)) (vs : List Value) → EachTyped head answers kinds (closed ls) es ws → all_values es ≡ Some vs → HasEach head answers kinds ws vs
-  values_each ls NoExp [] vs h q = subst (HasEach head answers kinds []) (let same : [] ≡ vs = cc in same) tt
+  pub values_each : (ls : List TypeId) (es : Exps) (ws : List (Want TypeId)) (vs : List Value) → EachTyped world answers kinds (closed ls) es ws → all_values es ≡ Some vs → HasEach world answers kinds ws vs
+  values_each ls NoExp [] vs h q = subst (HasEach world answers kinds []) (let same : [] ≡ vs = cc in same) tt
   values_each ls NoExp (w ∷ ws) vs h q = absurd h
   values_each ls (AnExp e es) [] vs h q = absurd h
   values_each ls (AnExp (Val v) es) (w ∷ ws) vs h q = one_more v w ws vs h.0 (all_values es) (λ us e. values_each ls es ws us h.1 e) refl q
@@ -206,66 +206,66 @@ module _ (head : TypeId → Node TypeId) (lawful : IsLawful head) (answers : Ans
 
   -- ---- the functions of a group
 
-  pub functions_labels : (c : Around) (fns : Functions) (ws : List (Want TypeId)) → FunctionsTyped head answers kinds c fns ws → FunctionsTyped head answers kinds (record { names = c.names; labels = [] }) fns ws
+  pub functions_labels : (c : Around) (fns : Functions) (ws : List (Want TypeId)) → FunctionsTyped world answers kinds c fns ws → FunctionsTyped world answers kinds (record { names = c.names; labels = [] }) fns ws
   functions_labels c NoFunction [] h = tt
   functions_labels c NoFunction (w ∷ ws) h = absurd h
   functions_labels c (AFunction how n ps body fns) [] h = absurd h
   functions_labels c (AFunction how n ps body fns) (w ∷ ws) h = (h.0, functions_labels c fns ws h.1)
 
-  group_keeps : (ls : List TypeId) (w : Want TypeId) (store : Store) (fns : Functions) (b : Exp) (ws : List (Want TypeId)) → Holds store → FunctionsTyped head answers kinds (with_names ws (closed ls)) fns ws → Typed head answers kinds (with_names ws (closed ls)) b w
+  group_keeps : (ls : List TypeId) (w : Want TypeId) (store : Store) (fns : Functions) (b : Exp) (ws : List (Want TypeId)) → Holds store → FunctionsTyped world answers kinds (with_names ws (closed ls)) fns ws → Typed world answers kinds (with_names ws (closed ls)) b w
       → K ls w (Goes (weighing (1 + group_nodes fns)) store (put (group_of fns) b))
   group_keeps ls w store fns b ws s h i =
-      let names = subst (λ ns. FunctionsTyped head answers kinds (record { names = ns; labels = ls }) fns ws) (append_nil ws) h in
+      let names = subst (λ ns. FunctionsTyped world answers kinds (record { names = ns; labels = ls }) fns ws) (append_nil ws) h in
       let f = functions_labels (record { names = ws; labels = ls }) fns ws names in (
         kinds,
         longer_self kinds,
         s,
-        put_typed head answers lawful kinds b (group_of fns) ws [] ls w (covers_group head lawful answers kinds fns ws f (record { names = ws; labels = ls }) fns ws 0 names (λ m. ap (slice_get ws) (omega arith)))
-            (subst (λ ns. Typed head answers kinds (record { names = ns; labels = ls }) b w) (append_nil ws) i),
+        put_typed world answers lawful kinds b (group_of fns) ws [] ls w (covers_group world lawful answers kinds fns ws f (record { names = ws; labels = ls }) fns ws 0 names (λ m. ap (slice_get ws) (omega arith)))
+            (subst (λ ns. Typed world answers kinds (record { names = ns; labels = ls }) b w) (append_nil ws) i),
       )
 
-  module _ (members : MembersKeep head lawful answers kinds) (given : Option Given) (store : Store) (st : StoreTyped head answers kinds store kinds) where
+  module _ (members : MembersKeep world lawful answers kinds) (given : Option Given) (store : Store) (st : StoreTyped world answers kinds store kinds) where
     abbrev asked : Exp → Act
-    asked e = reduce head None store e
+    asked e = reduce world.meant None store e
 
     abbrev reduced : Exp → Act
-    reduced e = reduce head given store e
+    reduced e = reduce world.meant given store e
 
-    does_keep : (ls : List TypeId) (w : Want TypeId) (a : Action) (ws : List (Want TypeId)) (vs : List Value) → Does head answers (closed ls) a ws w → HasEach head answers kinds ws vs → S given (act head None store a vs) → K ls w (act head given store a vs)
-    does_keep ls w a ws vs (inl d) h i = keeps_sub head lawful answers kinds ls d.1 w (act head given store a vs) d.3 (acts_keep head lawful answers kinds members ls store given a d.0 ws d.1 vs st d.2 h i)
-    does_keep ls w (action.Break l) ws vs (inr j) h i = by vs (subst (λ ws. HasEach head answers kinds ws vs) j.2 h)
+    does_keep : (ls : List TypeId) (w : Want TypeId) (a : Action) (ws : List (Want TypeId)) (vs : List Value) → Does world answers (closed ls) a ws w → HasEach world answers kinds ws vs → S given (act world.meant None store a vs) → K ls w (act world.meant given store a vs)
+    does_keep ls w a ws vs (inl d) h i = keeps_sub world lawful answers kinds ls d.1 w (act world.meant given store a vs) d.3 (acts_keep world lawful answers kinds members ls store given a d.0 ws d.1 vs st d.2 h i)
+    does_keep ls w (action.Break l) ws vs (inr j) h i = by vs (subst (λ ws. HasEach world answers kinds ws vs) j.2 h)
       where
-        by : (vs : List Value) → HasEach head answers kinds (Of j.0 ∷ []) vs → K ls w (act head given store (action.Break l) vs)
+        by : (vs : List Value) → HasEach world answers kinds (Of j.0 ∷ []) vs → K ls w (act world.meant given store (action.Break l) vs)
         by [] k = absurd k
         by (v ∷ []) k = (j.0, j.1, k.0)
         by (v ∷ u ∷ us) k = absurd k.1
-    does_keep ls w action.Throw ws vs (inr j) h i = by vs (subst (λ ws. HasEach head answers kinds ws vs) j.2 h)
+    does_keep ls w action.Throw ws vs (inr j) h i = by vs (subst (λ ws. HasEach world answers kinds ws vs) j.2 h)
       where
-        by : (vs : List Value) → HasEach head answers kinds (Of j.0 ∷ []) vs → K ls w (act head given store action.Throw vs)
+        by : (vs : List Value) → HasEach world answers kinds (Of j.0 ∷ []) vs → K ls w (act world.meant given store action.Throw vs)
         by [] k = absurd k
-        by (v ∷ []) k = (error_of head answers kinds j.0 v j.1 k.0, j.3)
+        by (v ∷ []) k = (error_of world answers kinds j.0 v j.1 k.0, j.3)
         by (v ∷ u ∷ us) k = absurd k.1
     does_keep ls w a ws vs (inr j) h i = absurd j
 
-    do_keeps : (ls : List TypeId) (w : Want TypeId) (a : Action) (ws : List (Want TypeId)) → Does head answers (closed ls) a ws w → (es : Exps) → EachTyped head answers kinds (closed ls) es ws → (o : Option (List Value)) → all_values es ≡ o
-        → (all_values es ≡ None → S given (reduce_operand head None store (Do a) es) → K ls w (reduce_operand head given store (Do a) es))
-        → S given (values_or o (act head None store a) (reduce_operand head None store (Do a) es)) → K ls w (values_or o (act head given store a) (reduce_operand head given store (Do a) es))
+    do_keeps : (ls : List TypeId) (w : Want TypeId) (a : Action) (ws : List (Want TypeId)) → Does world answers (closed ls) a ws w → (es : Exps) → EachTyped world answers kinds (closed ls) es ws → (o : Option (List Value)) → all_values es ≡ o
+        → (all_values es ≡ None → S given (reduce_operand world.meant None store (Do a) es) → K ls w (reduce_operand world.meant given store (Do a) es))
+        → S given (values_or o (act world.meant None store a) (reduce_operand world.meant None store (Do a) es)) → K ls w (values_or o (act world.meant given store a) (reduce_operand world.meant given store (Do a) es))
     do_keeps ls w a ws d es h None e f i = f e i
     do_keeps ls w a ws d es h (Some vs) e f i = does_keep ls w a ws vs d (values_each ls es ws vs h e) i
 
-    may_hold : (o t : TypeId) → ((head o ≡ node.Opt t) ⊎ (((head o ≡ node.Null) ⊎ (head o ≡ node.Bottom)) × (head t ≡ node.Bottom))) → MayHold head (head o) t
+    may_hold : (o t : TypeId) → ((world.head o ≡ node.Opt t) ⊎ (((world.head o ≡ node.Null) ⊎ (world.head o ≡ node.Bottom)) × (world.head t ≡ node.Bottom))) → MayHold world.head (world.head o) t
     may_hold o t (inl e) = inl e
     may_hold o t (inr e) = inr e.0
 
-    turn_typed : (ls : List TypeId) (p : Pat) (v : Value) (b : Exp) (w : Want TypeId) (i t u : TypeId) (ns : List (Want TypeId)) → GivesElements head i t → IsUnit head u → Has (Of i) v → PatternTyped head p t ns → Typed head answers kinds (with_names ns (closed ls)) b (Of u) → Serves head (Of u) w
+    turn_typed : (ls : List TypeId) (p : Pat) (v : Value) (b : Exp) (w : Want TypeId) (i t u : TypeId) (ns : List (Want TypeId)) → GivesElements world.head i t → IsUnit world.head u → Has (Of i) v → PatternTyped world.head p t ns → Typed world answers kinds (with_names ns (closed ls)) b (Of u) → Serves world.head (Of u) w
         → T ls (turn_of p v b) w
     turn_typed ls p v b w i t u ns it iu h pt bt sv =
         let next = it.1 in
         let o = it.2 in
         let f = it.4.0 in
-        let field : Serves head (by_mutability f.mutable f.part) (Of next) = subst (λ m. Serves head (by_mutability m f.part) (Of next)) (sym it.4.2) (subst (λ q. Serves head (Of q) (Of next)) (sym it.4.3) (reflexive head lawful next)) in
+        let field : Serves world.head (by_mutability f.mutable f.part) (Of next) = subst (λ m. Serves world.head (by_mutability m f.part) (Of next)) (sym it.4.2) (subst (λ q. Serves world.head (Of q) (Of next)) (sym it.4.3) (reflexive world.head lawful next)) in
         let got : T ls (Do (action.Operate (op.Field (codes "next"))) (one (Val v))) (Of next) = inl (Of i ∷ [], inl (sort.Local, field_want (Some f), (i, refl, (it.0, f, it.3, it.4.1, refl)), field), (h, tt)) in
-        let called : T ls (Do action.Call (one (Do (action.Operate (op.Field (codes "next"))) (one (Val v))))) (Of o) = inl (Of next ∷ [], inl (sort.Local, Of o, (next, o, [], it.5, refl, refl), reflexive head lawful o), (got, tt)) in (
+        let called : T ls (Do action.Call (one (Do (action.Operate (op.Field (codes "next"))) (one (Val v))))) (Of o) = inl (Of next ∷ [], inl (sort.Local, Of o, (next, o, [], it.5, refl, refl), reflexive world.head lawful o), (got, tt)) in (
           lawful.flag,
           lawful.is_flag,
           (
@@ -274,18 +274,18 @@ module _ (head : TypeId → Node TypeId) (lawful : IsLawful head) (answers : Ans
             (
               [],
               refl,
-              flag_fits head answers kinds lawful.flag false lawful.is_flag,
-              (ns, (o, t, reflexive head lawful o, may_hold o t it.6, pt), (Of u, bt, ([], refl, flag_fits head answers kinds lawful.flag true lawful.is_flag, tt)), tt),
+              flag_fits world answers kinds lawful.flag false lawful.is_flag,
+              (ns, (o, t, reflexive world.head lawful o, may_hold o t it.6, pt), (Of u, bt, ([], refl, flag_fits world answers kinds lawful.flag true lawful.is_flag, tt)), tt),
             ),
           ),
           (i, t, u, ns, it, iu, h, pt, bt, sv),
-          has_sub head lawful answers kinds unit (Of u) w (unit_fits head answers kinds u iu) sv,
+          has_sub world lawful answers kinds unit (Of u) w (unit_fits world answers kinds u iu) sv,
         )
 
     -- an index into an empty array traps
-    empty_keeps : (ls : List TypeId) (w : Want TypeId) (k : TypeId) (v : Value) → IsNumber head kind.Nat k → Has (Of k) v → K ls w (act head given store (action.Operate op.Element) (Made Array NoValue ∷ v ∷ []))
+    empty_keeps : (ls : List TypeId) (w : Want TypeId) (k : TypeId) (v : Value) → IsNumber world.head kind.Nat k → Has (Of k) v → K ls w (act world.meant given store (action.Operate op.Element) (Made Array NoValue ∷ v ∷ []))
     empty_keeps ls w k v q h =
-        let r = natural_seen head lawful answers kinds k v q h in
+        let r = natural_seen world lawful answers kinds k v q h in
         subst (λ o. K ls w (answered store (operation_cost op.Element (shapes_list (Made Array NoValue ∷ v ∷ [])) (views.given o (λ i. in_bounds (slice_get [] i)))) (views.given o (λ i. in_bounds (slice_get [] i))))) (sym r.1) tt
 
     abbrev P : List TypeId → Want TypeId → Act → Act → Type 0
@@ -312,38 +312,38 @@ module _ (head : TypeId → Node TypeId) (lawful : IsLawful head) (answers : Ans
           either (P ls w) c _ _ _ _
           (λ v q j. chosen_keeps ls w store h.0 v a b st h.1 (value_typed ls c v (Of h.0) q h.2) h.3 h.4)
           (λ nc j. inside_keeps ls (λ e. If e a b) (Of h.0) w
-          (λ more e g k. (h.0, h.1, k, typed_grow head answers answers (knows_self answers) kinds more g (closed ls) a w h.3, typed_grow head answers answers (knows_self answers) kinds more g (closed ls) b w h.4))
+          (λ more e g k. (h.0, h.1, k, typed_grow world answers answers (knows_self answers) kinds more g (closed ls) a w h.3, typed_grow world answers answers (knows_self answers) kinds more g (closed ls) b w h.4))
           (reduced c) (keeps c ls (Of h.0) nc h.2 (suits_inside given (λ e. If e a b) (asked c) j))) i
       keeps (Switch e cases) ls w n h i =
           either (P ls w) e _ _ _ _
           (λ v q j. cases_keep ls w store 1 v h.0 cases st (value_typed ls e v h.0 q h.1) h.2)
-          (λ ne j. inside_keeps ls (λ f. Switch f cases) h.0 w (λ more e g k. (h.0, k, cases_grow head answers answers (knows_self answers) kinds more g (closed ls) cases h.0 w h.2))
+          (λ ne j. inside_keeps ls (λ f. Switch f cases) h.0 w (λ more e g k. (h.0, k, cases_grow world answers answers (knows_self answers) kinds more g (closed ls) cases h.0 w h.2))
           (reduced e) (keeps e ls h.0 ne h.1 (suits_inside given (λ f. Switch f cases) (asked e) j))) i
       keeps (Group fns b) ls w n h i = group_keeps ls w store fns b h.0 st h.1 h.2
       keeps (Frame m e) ls w n h i =
           either (P ls w) e _ _ _ _
-          (λ v q j. goes_keeps ls w store (Val v) 1 st (has_sub head lawful answers kinds v (Of h.0) w (value_typed (h.0 ∷ []) e v (Of h.0) q h.1) h.2))
+          (λ v q j. goes_keeps ls w store (Val v) 1 st (has_sub world lawful answers kinds v (Of h.0) w (value_typed (h.0 ∷ []) e v (Of h.0) q h.1) h.2))
           (λ ne j. frame_keeps ls w store m h.0 st h.2 (reduced e) (keeps e (h.0 ∷ []) (Of h.0) ne h.1 (suits_frame given store m (asked e) j))) i
       keeps (Label e) ls w n h i =
           either (P ls w) e _ _ _ _
-          (λ v q j. goes_keeps ls w store (Val v) 1 st (has_sub head lawful answers kinds v (Of h.0) w (value_typed (h.0 ∷ ls) e v (Of h.0) q h.1) h.2))
+          (λ v q j. goes_keeps ls w store (Val v) 1 st (has_sub world lawful answers kinds v (Of h.0) w (value_typed (h.0 ∷ ls) e v (Of h.0) q h.1) h.2))
           (λ ne j. label_keeps ls w store h.0 st h.2 (reduced e) (keeps e (h.0 ∷ ls) (Of h.0) ne h.1 (suits_label given store (asked e) j))) i
       keeps (While c b) ls w n h i =
-          goes_keeps ls w store (If c (then b (While c b)) (Val unit)) 1 st (h.0, h.2, h.4, then_typed ls b (While c b) h.1 w h.5 h, has_sub head lawful answers kinds unit (Of h.1) w (unit_fits head answers kinds h.1 h.3) h.6)
+          goes_keeps ls w store (If c (then b (While c b)) (Val unit)) 1 st (h.0, h.2, h.4, then_typed ls b (While c b) h.1 w h.5 h, has_sub world lawful answers kinds unit (Of h.1) w (unit_fits world answers kinds h.1 h.3) h.6)
       keeps (Repeat b c) ls w n h i =
           goes_keeps ls w store (then b (If c (Repeat b c) (Val unit))) 1 st
-          (then_typed ls b (If c (Repeat b c) (Val unit)) h.1 w h.5 (h.0, h.2, h.4, h, has_sub head lawful answers kinds unit (Of h.1) w (unit_fits head answers kinds h.1 h.3) h.6))
+          (then_typed ls b (If c (Repeat b c) (Val unit)) h.1 w h.5 (h.0, h.2, h.4, h, has_sub world lawful answers kinds unit (Of h.1) w (unit_fits world answers kinds h.1 h.3) h.6))
       keeps (For p e b) ls w n h i =
           either (P ls w) e _ _ _ _
           (λ v q j. goes_keeps ls w store (turn_of p v b) 1 st (turn_typed ls p v b w h.0 h.1 h.2 h.3 h.4 h.5 (value_typed ls e v (Of h.0) q h.6) h.7 h.8 h.9))
           (λ ne j. inside_keeps ls (λ f. For p f b) (Of h.0) w
-          (λ more e g k. (h.0, h.1, h.2, h.3, h.4, h.5, k, h.7, typed_grow head answers answers (knows_self answers) kinds more g (with_names h.3 (closed ls)) b (Of h.2) h.8, h.9))
+          (λ more e g k. (h.0, h.1, h.2, h.3, h.4, h.5, k, h.7, typed_grow world answers answers (knows_self answers) kinds more g (with_names h.3 (closed ls)) b (Of h.2) h.8, h.9))
           (reduced e) (keeps e ls (Of h.0) ne h.6 (suits_inside given (λ f. For p f b) (asked e) j))) i
       keeps (Try e p b) ls w n h i =
           either (P ls w) e _ _ _ _
           (λ v q j. goes_keeps ls w store (Val v) 1 st (value_typed ls e v w q h.3))
           (λ ne j. handler_keeps ls w store h.0 h.1 p b st h.2 h.4 h.5
-          (λ more e g k. (h.0, h.1, h.2, k, h.4, typed_grow head answers answers (knows_self answers) kinds more g (with_names h.1 (closed ls)) b w h.5))
+          (λ more e g k. (h.0, h.1, h.2, k, h.4, typed_grow world answers answers (knows_self answers) kinds more g (with_names h.1 (closed ls)) b w h.5))
           (reduced e) (keeps e ls w ne h.3 (suits_handler given store p b (asked e) j))) i
       keeps (Update o e f) ls w n h i =
           either (P ls w) e _ _ _ _
@@ -353,16 +353,16 @@ module _ (head : TypeId → Node TypeId) (lawful : IsLawful head) (answers : Ans
           goes_keeps ls w store (Do action.Write (two (Val v) (Do (action.Operate o) (two (Do action.Read (one (Val v))) f)))) 1 st
           (inl (CellOf h.0 ∷ Of h.0 ∷ [], inl (sort.Local, Of h.1, (h.0, refl, (h.1, refl, h.10)), h.11), (c, (computed, tt)))))
           (λ ne j. inside_keeps ls (λ e. Update o e f) (CellOf h.0) w
-          (λ more e g k. (h.0, h.1, h.2, h.3, h.4, h.5, k, h.7, typed_grow head answers answers (knows_self answers) kinds more g (closed ls) f h.4 h.8, h.9, h.10, h.11))
+          (λ more e g k. (h.0, h.1, h.2, h.3, h.4, h.5, k, h.7, typed_grow world answers answers (knows_self answers) kinds more g (closed ls) f h.4 h.8, h.9, h.10, h.11))
           (reduced e) (keeps e ls (CellOf h.0) ne h.6 (suits_inside given (λ e. Update o e f) (asked e) j))) i
 
-      operand_keeps : (es : Exps) (ws : List (Want TypeId)) (f : Exps → Exp) (ls : List TypeId) (w : Want TypeId) → EachTyped head answers kinds (closed ls) es ws
-          → ((more : List TypeId) (es' : Exps) → IsLonger kinds more → EachTyped head answers more (closed ls) es' ws → Typed head answers more (closed ls) (f es') w) → all_values es ≡ None
-          → S given (reduce_operand head None store f es) → K ls w (reduce_operand head given store f es)
+      operand_keeps : (es : Exps) (ws : List (Want TypeId)) (f : Exps → Exp) (ls : List TypeId) (w : Want TypeId) → EachTyped world answers kinds (closed ls) es ws
+          → ((more : List TypeId) (es' : Exps) → IsLonger kinds more → EachTyped world answers more (closed ls) es' ws → Typed world answers more (closed ls) (f es') w) → all_values es ≡ None
+          → S given (reduce_operand world.meant None store f es) → K ls w (reduce_operand world.meant given store f es)
       operand_keeps NoExp ws f ls w h k q i = absurd (let r : Some [] ≡ None = q in cc)
       operand_keeps (AnExp e es) [] f ls w h k q i = absurd h
       operand_keeps (AnExp (Val v) es) (a ∷ ws) f ls w h k q i =
-          operand_keeps es ws (λ rest. f (AnExp (Val v) rest)) ls w h.1 (λ more es' g j. k more (AnExp (Val v) es') g (has_grow head answers answers (knows_self answers) kinds more g v a h.0, j)) (and_none v (all_values es) q) i
+          operand_keeps es ws (λ rest. f (AnExp (Val v) rest)) ls w h.1 (λ more es' g j. k more (AnExp (Val v) es') g (has_grow world answers answers (knows_self answers) kinds more g v a h.0, j)) (and_none v (all_values es) q) i
       operand_keeps (AnExp e es) (a ∷ ws) f ls w h k q i =
-          inside_keeps ls (λ e. f (AnExp e es)) a w (λ more e g j. k more (AnExp e es) g (j, each_grow head answers answers (knows_self answers) kinds more g (closed ls) es ws h.1))
+          inside_keeps ls (λ e. f (AnExp e es)) a w (λ more e g j. k more (AnExp e es) g (j, each_grow world answers answers (knows_self answers) kinds more g (closed ls) es ws h.1))
           (reduced e) (keeps e ls a tt h.0 (suits_inside given (λ e. f (AnExp e es)) (asked e) i))

@@ -1,5 +1,5 @@
 -- Values that fit here are values of their types as the table of operations sees them, and so its answers are.
-use Rattle.std.proofs.Common.{◌≡◌, ◌⊎◌, inl, inr, ℕ, zero, suc, List, [], ◌∷◌, map, Bool, true, false, Option, Some, None, sym, subst}
+use Rattle.std.proofs.Common.{◌≡◌, ◌⊎◌, inl, inr, ℕ, zero, suc, List, [], ◌∷◌, map, Bool, true, false, not, Option, Some, None, refl, sym, ap, subst}
 use Rattle.mo_types.specs.declared.datum.Datum.TheVariants as part
 use Rattle.mo_types.specs.declared.node.Field.{Field}
 use Rattle.mo_types.specs.declared.node.Node.{Node}
@@ -12,9 +12,9 @@ use Rattle.mo_types.specs.Values.{copies}
 use Rattle.mo_values.specs.declared.operation.Operation.{Operation}
 use Rattle.mo_values.specs.declared.operation.Operation.TheVariants as op
 use Rattle.mo_values.specs.Messages.{count}
-use Rattle.mo_values.specs.Operations.{operate}
-use Rattle.mo_values.specs.Shapes.{Bytes, Head, Leaf, Present, Tuple, Array, Object, Tag, Error, Cell, Future, Shapes}
-use Rattle.mo_values.specs.Views.{Answer, Gives}
+use Rattle.mo_values.specs.Operations.{operate, flag}
+use Rattle.mo_values.specs.Shapes.{Bytes, Head, Leaf, Present, Tuple, Array, Object, Tag, Error, Cell, Future, Shape, Shapes}
+use Rattle.mo_values.specs.Views.{Answer, Gives, given}
 use Rattle.mo_values.specs.Views as answer
 use Rattle.typed_tree.specs.Has as typed
 use Rattle.typed_tree.specs.Has.{RootOf, wants}
@@ -26,20 +26,21 @@ use Rattle.typed_tree.specs.Wants.{Want, Anything, Of, CellOf, FutureOf, KeptOf,
 use Rattle.typed_tree.proofs.Opened.{shape_value}
 use Rattle.typed_tree.proofs.SoundTable.{table}
 use Rattle.mo_soundness.specs.Keeps.{HasEach}
-use Rattle.mo_soundness.specs.Running.{AnswerTypes, Callable, plain, Fits, HasValue, HaveValues, FunctionOf, known}
+use Rattle.mo_soundness.specs.Running.{AnswerTypes, SameEquality, Operates, Callable, plain, Fits, HasValue, HaveValues, FunctionOf, known}
+use Rattle.mo_soundness.specs.Worlds.{World}
 
-module _ (head : TypeId → Node TypeId) (answers : AnswerTypes) (kinds : List TypeId) where
+module _ (world : World) (answers : AnswerTypes) (kinds : List TypeId) where
   abbrev Seen : Want TypeId → Value → Type 0
-  Seen w v = typed.Has head (known head answers kinds) kinds w (shape_of v)
+  Seen w v = typed.Has world.head (known world answers kinds) kinds w (shape_of v)
 
   abbrev AllSeen : List (Want TypeId) → Values → Type 0
-  AllSeen ws vs = typed.HasEach head (known head answers kinds) kinds ws (shapes_of vs)
+  AllSeen ws vs = typed.HasEach world.head (known world answers kinds) kinds ws (shapes_of vs)
 
   abbrev RootHere : Node TypeId → Head → Type 0
-  RootHere x h = RootOf head (plain head answers) [] x h
+  RootHere x h = RootOf world.head (plain world.head answers) [] x h
 
   abbrev RootThere : Node TypeId → Head → Type 0
-  RootThere x h = RootOf head (known head answers kinds) kinds x h
+  RootThere x h = RootOf world.head (known world answers kinds) kinds x h
 
   root_there : (x : Node TypeId) (h : Head) → RootHere x h → RootThere x h
   root_there x (Leaf p) r = r
@@ -63,32 +64,32 @@ module _ (head : TypeId → Node TypeId) (answers : AnswerTypes) (kinds : List T
   root_here x (Cell at) r = r
   root_here x (Future call) r = r
 
-  fits_there : (x : Node TypeId) (h : Head) (i : Shapes Code) → Fits head answers x h → typed.Fits head (known head answers kinds) kinds x h i
+  fits_there : (x : Node TypeId) (h : Head) (i : Shapes Code) → Fits world.head answers x h → typed.Fits world.head (known world answers kinds) kinds x h i
   fits_there node.Any h i f = f
   fits_there (node.Variable v b) h i f = absurd f
   fits_there x h i f = root_there x h f
 
-  fits_here : (x : Node TypeId) (h : Head) (i : Shapes Code) → typed.Fits head (known head answers kinds) kinds x h i → Fits head answers x h
+  fits_here : (x : Node TypeId) (h : Head) (i : Shapes Code) → typed.Fits world.head (known world answers kinds) kinds x h i → Fits world.head answers x h
   fits_here node.Any h i f = f
   fits_here (node.Variable v b) h i f = absurd f
   fits_here x h i f = root_here x h f
 
-  callable_there : (x : Node TypeId) (f : Code) (t : TypeId) → Callable x (FunctionOf head answers kinds f t) → typed.FunctionFits head (known head answers kinds) kinds x f t
+  callable_there : (x : Node TypeId) (f : Code) (t : TypeId) → Callable x (FunctionOf world answers kinds f t) → typed.FunctionFits world.head (known world answers kinds) kinds x f t
   callable_there node.Any f t c = tt
   callable_there (node.Func sort.Local ps rs) f t c = c
   callable_there x f t c = absurd c
 
-  callable_here : (x : Node TypeId) (f : Code) (t : TypeId) → typed.FunctionFits head (known head answers kinds) kinds x f t → Callable x (FunctionOf head answers kinds f t)
+  callable_here : (x : Node TypeId) (f : Code) (t : TypeId) → typed.FunctionFits world.head (known world answers kinds) kinds x f t → Callable x (FunctionOf world answers kinds f t)
   callable_here node.Any f t c = tt
   callable_here (node.Func sort.Local ps rs) f t c = c
   callable_here x f t c = absurd c
 
   mutual
-    pub there : (v : Value) (w : Want TypeId) → HasValue head answers kinds w v → Seen w v
+    pub there : (v : Value) (w : Want TypeId) → HasValue world answers kinds w v → Seen w v
     there v Anything h = tt
-    there (Made k inner) (Of t) h = (fits_there (head t) k (shapes_of inner) h.0, all_there inner (wants k (head t) (count (shapes_of inner))) h.1)
-    there (Function group which) (Of t) h = callable_there (head t) (Closed group which) t h
-    there (BuiltIn m holds) (Of t) h = callable_there (head t) (BuiltInCode m holds) t h
+    there (Made k inner) (Of t) h = (fits_there (world.head t) k (shapes_of inner) h.0, all_there inner (wants k (world.head t) (count (shapes_of inner))) h.1)
+    there (Function group which) (Of t) h = callable_there (world.head t) (Closed group which) t h
+    there (BuiltIn m holds) (Of t) h = callable_there (world.head t) (BuiltInCode m holds) t h
     there (Made (Cell at) NoValue) (CellOf t) h = h
     there (Made (Future call) NoValue) (FutureOf t) h = h
     there (Made (Leaf part.Null) NoValue) (KeptOf t) h = tt
@@ -98,7 +99,7 @@ module _ (head : TypeId → Node TypeId) (answers : AnswerTypes) (kinds : List T
     there v (KeptOf t) h = absurd h
     there v (Generic vs t) h = absurd h
 
-    all_there : (vs : Values) (ws : List (Want TypeId)) → HaveValues head answers kinds ws vs → AllSeen ws vs
+    all_there : (vs : Values) (ws : List (Want TypeId)) → HaveValues world answers kinds ws vs → AllSeen ws vs
     all_there NoValue [] h = tt
     all_there NoValue (w ∷ ws) h = absurd h
     all_there (AValue v vs) [] h = absurd h
@@ -158,12 +159,12 @@ module _ (head : TypeId → Node TypeId) (answers : AnswerTypes) (kinds : List T
   plain_wants (Future call) x n = tt
 
   mutual
-    pub here : (v : Value) (w : Want TypeId) → IsPlain w → Seen w v → HasValue head answers kinds w v
+    pub here : (v : Value) (w : Want TypeId) → IsPlain w → Seen w v → HasValue world answers kinds w v
     here v Anything i h = tt
     here v (Generic vs t) i h = absurd i
-    here (Made k inner) (Of t) i h = (fits_here (head t) k (shapes_of inner) h.0, all_here inner (wants k (head t) (count (shapes_of inner))) (plain_wants k (head t) (count (shapes_of inner))) h.1)
-    here (Function group which) (Of t) i h = callable_here (head t) (Closed group which) t h
-    here (BuiltIn m holds) (Of t) i h = callable_here (head t) (BuiltInCode m holds) t h
+    here (Made k inner) (Of t) i h = (fits_here (world.head t) k (shapes_of inner) h.0, all_here inner (wants k (world.head t) (count (shapes_of inner))) (plain_wants k (world.head t) (count (shapes_of inner))) h.1)
+    here (Function group which) (Of t) i h = callable_here (world.head t) (Closed group which) t h
+    here (BuiltIn m holds) (Of t) i h = callable_here (world.head t) (BuiltInCode m holds) t h
     here (Made (Cell at) NoValue) (CellOf t) i h = h
     here (Made (Future call) NoValue) (FutureOf t) i h = h
     here (Made (Leaf part.Null) NoValue) (KeptOf t) i h = tt
@@ -172,13 +173,13 @@ module _ (head : TypeId → Node TypeId) (answers : AnswerTypes) (kinds : List T
     here v (FutureOf t) i h = absurd h
     here v (KeptOf t) i h = absurd h
 
-    all_here : (vs : Values) (ws : List (Want TypeId)) → Each IsPlain ws → AllSeen ws vs → HaveValues head answers kinds ws vs
+    all_here : (vs : Values) (ws : List (Want TypeId)) → Each IsPlain ws → AllSeen ws vs → HaveValues world answers kinds ws vs
     all_here NoValue [] i h = tt
     all_here NoValue (w ∷ ws) i h = absurd h
     all_here (AValue v vs) [] i h = absurd h
     all_here (AValue v vs) (w ∷ ws) i h = (here v w i.0 h.0, all_here vs ws i.1 h.1)
 
-  each_seen : (ws : List (Want TypeId)) (vs : List Value) → HasEach head answers kinds ws vs → AllHave head (known head answers kinds) kinds ws (shapes_list vs)
+  each_seen : (ws : List (Want TypeId)) (vs : List Value) → HasEach world answers kinds ws vs → AllHave world.head (known world answers kinds) kinds ws (shapes_list vs)
   each_seen [] [] h = tt
   each_seen [] (v ∷ vs) h = absurd h
   each_seen (w ∷ ws) [] h = absurd h
@@ -186,19 +187,19 @@ module _ (head : TypeId → Node TypeId) (answers : AnswerTypes) (kinds : List T
 
   -- an answer that fits
   abbrev pub AnswerFits : Want TypeId → Answer Code → Type 0
-  AnswerFits w (Gives s) = HasValue head answers kinds w (value_of s)
+  AnswerFits w (Gives s) = HasValue world answers kinds w (value_of s)
   AnswerFits w (answer.Traps text) = Unit {0}
   AnswerFits w answer.Stuck = ⊥
 
-  answer_here : (w : Want TypeId) (a : Answer Code) → IsPlain w → AnswerHas head (known head answers kinds) kinds w a → AnswerFits w a
-  answer_here w (Gives s) i h = here (value_of s) w i (subst (λ s. typed.Has head (known head answers kinds) kinds w s) (sym (shape_value s)) h)
+  answer_here : (w : Want TypeId) (a : Answer Code) → IsPlain w → AnswerHas world.head (known world answers kinds) kinds w a → AnswerFits w a
+  answer_here w (Gives s) i h = here (value_of s) w i (subst (λ s. typed.Has world.head (known world answers kinds) kinds w s) (sym (shape_value s)) h)
   answer_here w (answer.Traps text) i h = tt
   answer_here w answer.Stuck i h = h
 
   is_plain_from : (t : TypeId) (g : Want TypeId) → g ≡ Of t → IsPlain g
   is_plain_from t g e = subst IsPlain (sym e) tt
 
-  plain_answer : (o : Operation) (ws : List (Want TypeId)) (g : Want TypeId) → OperationTyped head o ws g → IsPlain g
+  plain_answer : (o : Operation) (ws : List (Want TypeId)) (g : Want TypeId) → OperationTyped world.head o ws g → IsPlain g
   plain_answer (op.Arithmetic o k) ws g h = is_plain_from h.0 g h.3
   plain_answer (op.Wrap o k) ws g h = is_plain_from h.0 g h.4
   plain_answer (op.Negate k) ws g h = is_plain_from h.0 g h.3
@@ -220,7 +221,7 @@ module _ (head : TypeId → Node TypeId) (answers : AnswerTypes) (kinds : List T
   plain_answer (op.Field l) ws g h = subst IsPlain (sym h.2.4) (plain_field (Some h.2.1))
   plain_answer op.Element ws g h = by h.5
     where
-      by : ((head h.0 ≡ node.Array h.2) × (g ≡ Of h.2)) ⊎ ((head h.0 ≡ node.MutArray h.2) × (g ≡ CellOf h.2)) → IsPlain g
+      by : ((world.head h.0 ≡ node.Array h.2) × (g ≡ Of h.2)) ⊎ ((world.head h.0 ≡ node.MutArray h.2) × (g ≡ CellOf h.2)) → IsPlain g
       by (inl e) = is_plain_from h.2 g e.1
       by (inr e) = subst IsPlain (sym e.1) tt
   plain_answer op.ArraySize ws g h = is_plain_from h.1.0 g h.1.1
@@ -233,5 +234,36 @@ module _ (head : TypeId → Node TypeId) (answers : AnswerTypes) (kinds : List T
   plain_answer (op.Fail text) ws g h = is_plain_from h.1.0 g h.1.1
 
   -- each row of the table of operations
-  pub operates : (o : Operation) (ws : List (Want TypeId)) (g : Want TypeId) (vs : List Value) → OperationTyped head o ws g → HasEach head answers kinds ws vs → AnswerFits g (operate head o (shapes_list vs))
-  operates o ws g vs t h = answer_here g (operate head o (shapes_list vs)) (plain_answer o ws g t) (table head (known head answers kinds) kinds o ws g (shapes_list vs) t (each_seen ws vs h))
+  operates_here : (o : Operation) (ws : List (Want TypeId)) (g : Want TypeId) (vs : List Value) → OperationTyped world.head o ws g → HasEach world answers kinds ws vs → AnswerFits g (operate world.head o (shapes_list vs))
+  operates_here o ws g vs t h = answer_here g (operate world.head o (shapes_list vs)) (plain_answer o ws g t) (table world.head (known world answers kinds) kinds o ws g (shapes_list vs) t (each_seen ws vs h))
+
+  -- all but equality go by no type
+  abbrev GoesByNoType : Operation → Type 0
+  GoesByNoType (op.Equal t) = ⊥
+  GoesByNoType (op.Unequal t) = ⊥
+  GoesByNoType o = Unit {0}
+
+  same_answers : (o : Operation) → GoesByNoType o → (ss : List (Shape Code)) → operate world.meant o ss ≡ operate world.head o ss
+  same_answers (op.Equal t) n ss = absurd n
+  same_answers (op.Unequal t) n ss = absurd n
+  same_answers o n [] = refl
+  same_answers o n (v ∷ []) = refl
+  same_answers o n (v ∷ x ∷ []) = refl
+  same_answers o n (v ∷ x ∷ y ∷ ss) = refl
+
+  equal_answers : (t u : TypeId) → SameEquality world t u → (ss : List (Shape Code)) → operate world.meant (op.Equal t) ss ≡ operate world.head (op.Equal u) ss
+  equal_answers t u e [] = refl
+  equal_answers t u e (v ∷ []) = refl
+  equal_answers t u e (v ∷ x ∷ []) = ap (λ o. given o (λ b. flag b)) (e v x)
+  equal_answers t u e (v ∷ x ∷ y ∷ ss) = refl
+
+  unequal_answers : (t u : TypeId) → SameEquality world t u → (ss : List (Shape Code)) → operate world.meant (op.Unequal t) ss ≡ operate world.head (op.Unequal u) ss
+  unequal_answers t u e [] = refl
+  unequal_answers t u e (v ∷ []) = refl
+  unequal_answers t u e (v ∷ x ∷ []) = ap (λ o. given o (λ b. flag (not b))) (e v x)
+  unequal_answers t u e (v ∷ x ∷ y ∷ ss) = refl
+
+  pub operates : (o : Operation) (ws : List (Want TypeId)) (g : Want TypeId) (vs : List Value) → Operates world o ws g → HasEach world answers kinds ws vs → AnswerFits g (operate world.meant o (shapes_list vs))
+  operates (op.Equal t) ws g vs h i = subst (AnswerFits g) (sym (equal_answers t h.0 h.1 (shapes_list vs))) (operates_here (op.Equal h.0) ws g vs h.2 i)
+  operates (op.Unequal t) ws g vs h i = subst (AnswerFits g) (sym (unequal_answers t h.0 h.1 (shapes_list vs))) (operates_here (op.Unequal h.0) ws g vs h.2 i)
+  operates o ws g vs h i = subst (AnswerFits g) (sym (same_answers o tt (shapes_list vs))) (operates_here o ws g vs h i)

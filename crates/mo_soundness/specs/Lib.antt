@@ -1,7 +1,9 @@
+pub mod Worlds
 pub mod Lawful
 pub mod RunningPatterns
 pub mod Running
 pub mod Keeps
+pub mod Meets
 pub mod Circle
 pub mod Reached
 pub mod Answered

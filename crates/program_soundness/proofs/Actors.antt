@@ -30,7 +30,6 @@ use Rattle.typed_tree.specs.Has.{IsCode}
 use Rattle.typed_tree.specs.Language.{Value, Exp, Val}
 use Rattle.typed_tree.specs.Programs.{Program, Method}
 use Rattle.typed_tree.specs.ProgramView.{program}
-use Rattle.typed_tree.specs.Shareable.{IsShareable}
 use Rattle.typed_tree.specs.WellTyped.{WellTyped}
 use Rattle.mo_meaning.specs.Acts.{Given, Gets, Fails}
 use Rattle.mo_meaning.specs.Acts as act
@@ -45,24 +44,24 @@ use Rattle.mo_soundness.specs.Keeps.{IsLonger, IsNoValue, KnowsMore}
 use Rattle.mo_soundness.specs.Lawful.{IsLawful}
 use Rattle.mo_soundness.specs.Running.{AnswerTypes}
 use Rattle.mo_soundness.proofs.More.{append_nil, longer_self}
-use Rattle.mo_types.specs.declared.node.Node.{Node}
 use Rattle.program_soundness.specs.Agreement.{WaitsOn, GivenFits, StateFits, Agrees, awaited_by, IsWaiting}
 use Rattle.program_soundness.specs.Actors.{IsProper, WaitFits, ActorTyped, IsTypedProgram, AreTyped, StateTyped}
 use Rattle.program_soundness.specs.Bodies.{IsEntry, FieldsTyped, WaitingTyped, BodyFits, EndingFits, EffectsFit, with_calls}
-use Rattle.program_soundness.specs.Parameters.{HasNoParameters}
 use Rattle.program_soundness.specs.Results.{GivesResults}
 use Rattle.program_soundness.specs.Roles.{calling}
 use Rattle.program_soundness.specs.Runs.{KeepsFit}
 use Rattle.program_soundness.specs.Starts.{quiet}
 use Rattle.program_soundness.proofs.Bodies.{at_method, body_left}
 use Rattle.program_soundness.proofs.Calls.{Standing, each_set, each_pushed, found_front, reowned, set_length, set_found, set_open}
-use Rattle.program_soundness.proofs.Given.{lawful_types, messages_shareable, program_shares, variables_share}
+use Rattle.program_soundness.proofs.Given.{lawful_types, program_shares, variables_share}
 use Rattle.program_soundness.proofs.Installs.{start_left}
 use Rattle.program_soundness.proofs.Messages.{results_packed}
 use Rattle.program_soundness.proofs.Read.{read_typed}
 use Rattle.program_soundness.proofs.Tables.{Entry as Row, in_range}
 use Rattle.program_soundness.proofs.Turns.{grows_self}
 use Rattle.program_soundness.proofs.Typed.{results_kept}
+use Rattle.program_soundness.specs.Worlds.{running, IsCarried}
+use Rattle.mo_soundness.specs.Worlds.{World}
 
 -- ---- methods by name
 
@@ -103,9 +102,9 @@ module _ (types : List Slot) (p : Program) where
   nothing_fine : (answers : AnswerTypes) (kinds : List TypeId) (table : CallTable (List TypeId) Given) → Fine answers kinds table WaitsForNothing
   nothing_fine answers kinds table number w q = absurd (let z : WaitsForNothing ≡ WaitsFor number w = q in cc)
 
-  module _ (lawful : IsLawful (head_at types)) where
+  module _ (lawful : IsLawful (running types).head) where
     waiting_grows : (answers more : AnswerTypes) (kinds longer : List TypeId) → KnowsMore answers more → IsLonger kinds longer → (w : Waiting) → WaitingTyped types p answers kinds w → WaitingTyped types p more longer w
-    waiting_grows answers more kinds longer k l w h = (h.0, (results_kept (head_at types) w.results lawful).grows answers more kinds longer w.at k l h.1)
+    waiting_grows answers more kinds longer k l w h = (h.0, (results_kept (running types) w.results lawful).grows answers more kinds longer w.at k l h.1)
 
     -- with more calls, answers and cells
     fine_later : (answers more : AnswerTypes) (kinds longer : List TypeId) → KnowsMore answers more → IsLonger kinds longer → (table : CallTable (List TypeId) Given) (rows : List Row) (x : Standing)
@@ -128,53 +127,53 @@ module _ (types : List Slot) (p : Program) where
 
 -- ---- what agrees
 
-module _ (head : TypeId → Node TypeId) (answers : AnswerTypes) (kinds : List TypeId) where
+module _ (world : World) (answers : AnswerTypes) (kinds : List TypeId) where
   -- whoever made the calls
-  agrees_owner : (table : CallTable (List TypeId) Given) (calls : List Outgoing) (owner : ℕ) → Agrees head answers kinds (with_calls table calls) → Agrees head answers kinds (record table { calls = table.calls ++ map (open_call {L = kernel} owner) calls })
+  agrees_owner : (table : CallTable (List TypeId) Given) (calls : List Outgoing) (owner : ℕ) → Agrees world answers kinds (with_calls table calls) → Agrees world answers kinds (record table { calls = table.calls ++ map (open_call {L = kernel} owner) calls })
   agrees_owner table calls owner h n t q =
       let g = h n t q in
       let r = reowned table.first table.calls calls 0 owner n g.call g.is in
       record {
         call = r.0;
         is = r.1;
-        result = subst (λ rs. ResultOf head rs t) r.2.results g.result;
-        shareable = subst (Each (IsShareable head)) r.2.results g.shareable;
+        result = subst (λ rs. ResultOf world.head rs t) r.2.results g.result;
+        shareable = subst (world.IsMessage []) r.2.results g.shareable;
         own = sym r.2.resumes ∙ g.own;
-        state = subst (StateFits head answers kinds t) r.2.state g.state;
+        state = subst (StateFits world answers kinds t) r.2.state g.state;
       }
 
   -- where a call is answered with what fits
-  agrees_set : (table : CallTable (List TypeId) Given) (number : ℕ) (st : State Given) → ((t : TypeId) → answers.types number ≡ Some t → StateFits head answers kinds t st) → Agrees head answers kinds table → Agrees head answers kinds (set_state table number st)
+  agrees_set : (table : CallTable (List TypeId) Given) (number : ℕ) (st : State Given) → ((t : TypeId) → answers.types number ≡ Some t → StateFits world answers kinds t st) → Agrees world answers kinds table → Agrees world answers kinds (set_state table number st)
   agrees_set table number st fits h n t q =
       let g = h n t q in
       let r = set_found table.first table.calls number n st g.call g.is in
       record {
         call = r.0;
         is = r.1;
-        result = subst (λ rs. ResultOf head rs t) r.2 g.result;
-        shareable = subst (Each (IsShareable head)) r.2 g.shareable;
+        result = subst (λ rs. ResultOf world.head rs t) r.2 g.result;
+        shareable = subst (world.IsMessage []) r.2 g.shareable;
         own = sym r.3 ∙ g.own;
         state = by g.call r.0 g.state r.4;
       }
     where
-      by : (c d : Row) → StateFits head answers kinds t c.state → (c.state ≡ d.state) ⊎ ((n ≡ number) × (st ≡ d.state)) → StateFits head answers kinds t d.state
-      by c d k (inl e) = subst (StateFits head answers kinds t) e k
-      by c d k (inr e) = subst (StateFits head answers kinds t) e.1 (fits t (subst (λ m. answers.types m ≡ Some t) e.0 q))
+      by : (c d : Row) → StateFits world answers kinds t c.state → (c.state ≡ d.state) ⊎ ((n ≡ number) × (st ≡ d.state)) → StateFits world answers kinds t d.state
+      by c d k (inl e) = subst (StateFits world answers kinds t) e k
+      by c d k (inr e) = subst (StateFits world answers kinds t) e.1 (fits t (subst (λ m. answers.types m ≡ Some t) e.0 q))
 
 -- ---- an actor whose program is typed
 
-module _ (coding : Coding) (faithful : IsFaithful coding) (p : TypedProgram) (w : WellTyped p) (none : HasNoParameters p.types) (own : Bytes) (short : length own ≤ 29) where
+module _ (coding : Coding) (faithful : IsFaithful coding) (p : TypedProgram) (w : WellTyped p) (own : Bytes) (short : length own ≤ 29) where
   abbrev P : Program
   P = program p
 
-  lawful : IsLawful (head_at p.types)
+  lawful : IsLawful (running p.types).head
   lawful = lawful_types p.types w.types w.basics
 
   -- what is known while its activations are set
   pub record Known (answers : AnswerTypes) (kinds : List TypeId) (a : Actor kernel) : Type 0 where
     pub may : answers.may_call ≡ true
     pub fields : FieldsTyped p.types P answers kinds a.store
-    pub calls : Agrees (head_at p.types) answers kinds a.table
+    pub calls : Agrees (running p.types) answers kinds a.table
     pub waits : (owner : ℕ) → Fine p.types P answers kinds a.table (activation_at a.activations owner)
 
   pub known_typed : (answers : AnswerTypes) (kinds : List TypeId) (a : Actor kernel) → Known answers kinds a → ActorTyped p.types P a
@@ -208,7 +207,7 @@ module _ (coding : Coding) (faithful : IsFaithful coding) (p : TypedProgram) (w 
 
   -- what waits now fits
   waits_now : (owner : ℕ) (effects : Effects kernel) (a : Actor kernel) (answers : AnswerTypes) (kinds : List TypeId) (number : ℕ) (v : Waiting) → WaitingTyped p.types P answers kinds v
-      → IsWaiting (head_at p.types) (with_calls a.table effects.calls) number v.at → WaitFits p.types P answers kinds (owned owner effects a) number v
+      → IsWaiting (running p.types) (with_calls a.table effects.calls) number v.at → WaitFits p.types P answers kinds (owned owner effects a) number v
   waits_now owner effects a answers kinds number v t h =
       let r = in_range a.table.first (a.table.calls ++ map (open_call {L = kernel} 0) effects.calls) number h.0 h.1 in
       record {
@@ -216,7 +215,7 @@ module _ (coding : Coding) (faithful : IsFaithful coding) (p : TypedProgram) (w 
         typed = λ call q o.
             let d = reowned a.table.first a.table.calls effects.calls owner 0 number call q in
             let same : d.0 ≡ h.0 = (let z : Some d.0 ≡ Some h.0 = sym d.1 ∙ h.1 in cc) in
-            (t, subst (λ (x : Option ℕ). WaitsOn (head_at p.types) (awaited_by number x) v.at) (sym (d.2.resumes ∙ ap (λ (x : Row). x.resumes) same)) h.2);
+            (t, subst (λ (x : Option ℕ). WaitsOn (running p.types) (awaited_by number x) v.at) (sym (d.2.resumes ∙ ap (λ (x : Row). x.resumes) same)) h.2);
       }
 
   ended_fine : (owner : ℕ) (effects : Effects kernel) (a : Actor kernel) (answers : AnswerTypes) (kinds : List TypeId) (ending : Ending kernel) → EndingFits p.types P answers kinds (with_calls a.table effects.calls) ending
@@ -237,7 +236,7 @@ module _ (coding : Coding) (faithful : IsFaithful coding) (p : TypedProgram) (w 
       closed_typed owner items e.0 e.1 (committed owner weight effects a) (record {
         may = e.2.0.1 k.may;
         fields = e.4.0;
-        calls = agrees_owner (head_at p.types) e.0 e.1 a.table effects.calls owner e.4.1;
+        calls = agrees_owner (running p.types) e.0 e.1 a.table effects.calls owner e.4.1;
         waits = each_set a.activations owner (activation_after effects.ending (activation_at a.activations owner)) (Fine p.types P e.0 e.1 (owned owner effects a)) others
             (ended_fine owner effects a e.0 e.1 effects.ending e.4.2 (others owner)) (answered_fine p.types P e.0 e.1 (owned owner effects a));
       })
@@ -262,9 +261,9 @@ module _ (coding : Coding) (faithful : IsFaithful coding) (p : TypedProgram) (w 
   query_typed answers kinds a k (Trapped prints text) = closed_typed (length a.activations) _ answers kinds (arrived a) (arrived_known answers kinds a k)
   query_typed answers kinds a k (Exhausted prints cause) = closed_typed (length a.activations) _ answers kinds (arrived a) (arrived_known answers kinds a k)
 
-  pub parameters_of : (entry : Entry) → IsEntry P entry → Each (IsShareable (head_at p.types)) entry.parameters
-  parameters_of entry (inl i) = subst (Each (IsShareable (head_at p.types))) (sym i.4) (at_method (λ (m : Method). Each (IsShareable (head_at p.types)) m.parameters) P.methods i.0 i.1 (program_shares p w).parameters i.3)
-  parameters_of entry (inr i) = subst (Each (IsShareable (head_at p.types))) (sym i.1) tt
+  pub parameters_of : (entry : Entry) → IsEntry P entry → Each (IsCarried p.types) entry.parameters
+  parameters_of entry (inl i) = subst (Each (IsCarried p.types)) (sym i.4) (at_method (λ (m : Method). Each (IsCarried p.types) m.parameters) P.methods i.0 i.1 (program_shares p w).parameters i.3)
+  parameters_of entry (inr i) = subst (Each (IsCarried p.types)) (sym i.1) tt
 
   abbrev around : CallTable (List TypeId) Given → Surroundings
   around table = surroundings coding p.types own table
@@ -277,8 +276,8 @@ module _ (coding : Coding) (faithful : IsFaithful coding) (p : TypedProgram) (w 
       by : (o : Option (List Value)) → read_values coding p.types entry.parameters bytes ≡ o → (entered_body (meaning coding first p.types P) own a (reads entry caller o) n).completion ≡ Some (Completes effects) → EffectsFit p.types P answers kinds a.table effects
       by None e z = absurd (never_completes (codes "bad argument") n effects z)
       by (Some vs) e z =
-          body_left (around a.table) lawful (messages_shareable p.types w.types) P (program_shares p w) answers kinds a.store (Enters entry caller vs) n effects k.may k.fields k.calls
-          (is, few, read_typed p.types lawful answers kinds coding faithful entry.parameters bytes vs (parameters_of entry is) e) z
+          body_left (around a.table) lawful w.types P (program_shares p w) answers kinds a.store (Enters entry caller vs) n effects k.may k.fields k.calls
+          (is, few, read_typed p.types w.types answers kinds coding faithful entry.parameters bytes vs (parameters_of entry is) e) z
 
   -- ---- answers that come in
 
@@ -287,31 +286,31 @@ module _ (coding : Coding) (faithful : IsFaithful coding) (p : TypedProgram) (w 
     abbrev value : Option Given
     value = received_value (meaning coding first p.types P) own a call received
 
-    read_fits : (t : TypeId) (bytes : Bytes) (g : Given) → ResultOf (head_at p.types) call.results t → Each (IsShareable (head_at p.types)) call.results → results_given (read_values coding p.types call.results bytes) ≡ Some g → GivenFits (head_at p.types) answers kinds t g
+    read_fits : (t : TypeId) (bytes : Bytes) (g : Given) → ResultOf (running p.types).head call.results t → Each (IsCarried p.types) call.results → results_given (read_values coding p.types call.results bytes) ≡ Some g → GivenFits (running p.types) answers kinds t g
     read_fits t bytes g is sh q = by (read_values coding p.types call.results bytes) refl q
       where
-        by : (o : Option (List Value)) → read_values coding p.types call.results bytes ≡ o → results_given o ≡ Some g → GivenFits (head_at p.types) answers kinds t g
+        by : (o : Option (List Value)) → read_values coding p.types call.results bytes ≡ o → results_given o ≡ Some g → GivenFits (running p.types) answers kinds t g
         by None e z = absurd (let y : None ≡ Some g = z in cc)
         by (Some vs) e z =
-            subst (GivenFits (head_at p.types) answers kinds t) (let same : Gets (packed vs) ≡ g = cc in same)
-            (results_packed (head_at p.types) answers kinds call.results t vs is (read_typed p.types lawful answers kinds coding faithful call.results bytes vs sh e))
+            subst (GivenFits (running p.types) answers kinds t) (let same : Gets (packed vs) ≡ g = cc in same)
+            (results_packed (running p.types) answers kinds call.results t vs is (read_typed p.types w.types answers kinds coding faithful call.results bytes vs sh e))
 
     -- an answer to a call of the program's own has the type of its future
-    own_fits : (received : Received) → IsProper (event_of number received) → (t : TypeId) (g : Given) → ResultOf (head_at p.types) call.results t → Each (IsShareable (head_at p.types)) call.results → call.resumes ≡ None
-        → received_value (meaning coding first p.types P) own a call received ≡ Some g → GivenFits (head_at p.types) answers kinds t g
+    own_fits : (received : Received) → IsProper (event_of number received) → (t : TypeId) (g : Given) → ResultOf (running p.types).head call.results t → Each (IsCarried p.types) call.results → call.resumes ≡ None
+        → received_value (meaning coding first p.types P) own a call received ≡ Some g → GivenFits (running p.types) answers kinds t g
     own_fits (Reply bytes) proper t g is sh none q = read_fits t bytes g is sh (ap (λ (o : Option ℕ). reply_value (meaning coding first p.types P) own a call o bytes) (sym none) ∙ q)
-    own_fits (Reject c text) proper t g is sh none q = subst (GivenFits (head_at p.types) answers kinds t) (let same : Fails (error (reject_code c) text) ≡ g = cc in same) (small_code c proper.0, proper.1)
+    own_fits (Reject c text) proper t g is sh none q = subst (GivenFits (running p.types) answers kinds t) (let same : Fails (error (reject_code c) text) ≡ g = cc in same) (small_code c proper.0, proper.1)
 
-    state_fits : (o : Option Given) → value ≡ o → (t : TypeId) → answers.types number ≡ Some t → StateFits (head_at p.types) answers kinds t (Answered o)
+    state_fits : (o : Option Given) → value ≡ o → (t : TypeId) → answers.types number ≡ Some t → StateFits (running p.types) answers kinds t (Answered o)
     state_fits None e t q = tt
     state_fits (Some g) e t q =
         let i = k.calls number t q in
         let same : i.call ≡ call = (let z : Some i.call ≡ Some call = sym i.is ∙ found in cc) in
-        own_fits received proper t g (subst (λ (c : Row). ResultOf (head_at p.types) c.results t) same i.result) (subst (λ (c : Row). Each (IsShareable (head_at p.types)) c.results) same i.shareable)
+        own_fits received proper t g (subst (λ (c : Row). ResultOf (running p.types).head c.results t) same i.result) (subst (λ (c : Row). Each (IsCarried p.types) c.results) same i.shareable)
         (ap (λ (c : Row). c.resumes) (sym same) ∙ i.own) e
 
-    pub answered_agrees : (o : Option Given) → value ≡ o → Agrees (head_at p.types) answers kinds (set_state a.table number (Answered o))
-    answered_agrees o e = agrees_set (head_at p.types) answers kinds a.table number (Answered o) (state_fits o e) k.calls
+    pub answered_agrees : (o : Option Given) → value ≡ o → Agrees (running p.types) answers kinds (set_state a.table number (Answered o))
+    answered_agrees o e = agrees_set (running p.types) answers kinds a.table number (Answered o) (state_fits o e) k.calls
 
     filled_known : (o : Option Given) → value ≡ o → Known answers kinds (filled number o a)
     filled_known o e = record {
@@ -334,23 +333,23 @@ module _ (coding : Coding) (faithful : IsFaithful coding) (p : TypedProgram) (w 
         by true e z = let same : u ≡ v = cc in ap₂ (λ n x. waiting n x) (eqb-true other number e) same
         by false e z = absurd (let y : None ≡ Some v = z in cc)
 
-    state_given : (st : State Given) (t : TypeId) (g : Given) → StateFits (head_at p.types) answers kinds t st → value_in_state (Some st) ≡ Some g → GivenFits (head_at p.types) answers kinds t g
+    state_given : (st : State Given) (t : TypeId) (g : Given) → StateFits (running p.types) answers kinds t st → value_in_state (Some st) ≡ Some g → GivenFits (running p.types) answers kinds t g
     state_given Open t g h q = absurd (let z : None ≡ Some g = q in cc)
     state_given Lost t g h q = absurd (let z : None ≡ Some g = q in cc)
     state_given (Answered None) t g h q = absurd (let z : None ≡ Some g = q in cc)
-    state_given (Answered (Some x)) t g h q = subst (GivenFits (head_at p.types) answers kinds t) (let same : x ≡ g = cc in same) h
+    state_given (Answered (Some x)) t g h q = subst (GivenFits (running p.types) answers kinds t) (let same : x ≡ g = cc in same) h
 
     -- what it waits for fits
-    given_fits : (resumes : Option ℕ) → call.resumes ≡ resumes → (t : TypeId) (g : Given) → answers.types (awaited_by number resumes) ≡ Some t → value ≡ Some g → GivenFits (head_at p.types) answers kinds t g
+    given_fits : (resumes : Option ℕ) → call.resumes ≡ resumes → (t : TypeId) (g : Given) → answers.types (awaited_by number resumes) ≡ Some t → value ≡ Some g → GivenFits (running p.types) answers kinds t g
     given_fits None e t g q v = state_fits (Some g) v t q
     given_fits (Some f) e t g q v = by received proper v
       where
-        by : (r : Received) → IsProper (event_of number r) → received_value (meaning coding first p.types P) own a call r ≡ Some g → GivenFits (head_at p.types) answers kinds t g
+        by : (r : Received) → IsProper (event_of number r) → received_value (meaning coding first p.types P) own a call r ≡ Some g → GivenFits (running p.types) answers kinds t g
         by (Reply bytes) h z =
             let i = k.calls f t q in
             state_given i.call.state t g i.state
             (ap (λ (o : Option Row). value_in_state (state_of o)) (sym i.is) ∙ ap (λ (o : Option ℕ). reply_value (meaning coding first p.types P) own a call o bytes) (sym e) ∙ z)
-        by (Reject c text) h z = subst (GivenFits (head_at p.types) answers kinds t) (let same : Fails (error (reject_code c) text) ≡ g = cc in same) (small_code c h.0, h.1)
+        by (Reject c text) h z = subst (GivenFits (running p.types) answers kinds t) (let same : Fails (error (reject_code c) text) ≡ g = cc in same) (small_code c h.0, h.1)
 
     some_type : (o : Option TypeId) → AtSome o (λ t. Unit {0}) → (t : TypeId) × (o ≡ Some t)
     some_type None h = absurd h
@@ -367,18 +366,18 @@ module _ (coding : Coding) (faithful : IsFaithful coding) (p : TypedProgram) (w 
         no_value (Val u) nodes n z = absurd (let y : act.Stuck ≡ act.Awaits nodes n = z in cc)
         no_value e nodes n z = tt
 
-        waits_kept : (v : Waiting) → GivesResults (head_at p.types) v.results answers kinds v.at → WaitsOn (head_at p.types) (awaited_by number call.resumes) v.at → AtSome (answers.types (awaited_by number call.resumes)) (λ t. Unit {0})
+        waits_kept : (v : Waiting) → GivesResults (running p.types) v.results answers kinds v.at → WaitsOn (running p.types) (awaited_by number call.resumes) v.at → AtSome (answers.types (awaited_by number call.resumes)) (λ t. Unit {0})
         waits_kept v h i =
-            (subst (KeepsFit (head_at p.types) (GivesResults (head_at p.types) v.results) answers kinds) (i.1 a.store.cells)
-            ((results_kept (head_at p.types) v.results lawful).keeps answers kinds None a.store.cells v.at (no_value v.at i.0 (awaited_by number call.resumes) (i.1 [])) k.fields.cells h tt)).0
+            (subst (KeepsFit (running p.types) (GivesResults (running p.types) v.results) answers kinds) (i.1 a.store.cells)
+            ((results_kept (running p.types) v.results lawful).keeps answers kinds None a.store.cells v.at (no_value v.at i.0 (awaited_by number call.resumes) (i.1 [])) k.fields.cells h tt)).0
 
-    nothing_left : (table : CallTable (List TypeId) Given) → Agrees (head_at p.types) answers kinds table → EffectsFit p.types P answers kinds table (no_effects a)
+    nothing_left : (table : CallTable (List TypeId) Given) → Agrees (running p.types) answers kinds table → EffectsFit p.types P answers kinds table (no_effects a)
     nothing_left table h = (
       answers,
       kinds,
       grows_self answers,
       longer_self kinds,
-      (k.fields, subst (λ (cs : List Row). Agrees (head_at p.types) answers kinds (record { first = table.first; calls = cs })) (sym (append_nil table.calls)) h, tt),
+      (k.fields, subst (λ (cs : List Row). Agrees (running p.types) answers kinds (record { first = table.first; calls = cs })) (sym (append_nil table.calls)) h, tt),
     )
 
     -- what an execution on an answer leaves
@@ -390,17 +389,17 @@ module _ (coding : Coding) (faithful : IsFaithful coding) (p : TypedProgram) (w 
         by None e x i z = absurd (never_completes (codes "bad reply") n effects z)
         by (Some g) e None i z = subst (EffectsFit p.types P answers kinds (set_state a.table number (Answered (Some g)))) (let same : no_effects a ≡ effects = cc in same) (nothing_left (set_state a.table number (Answered (Some g))) (answered_agrees (Some g) e))
         by (Some g) e (Some v) i z =
-            body_left (around (set_state a.table number (Answered (Some g)))) lawful (messages_shareable p.types w.types) P (program_shares p w) answers kinds a.store (Resumes v g) n effects k.may k.fields (answered_agrees (Some g) e)
+            body_left (around (set_state a.table number (Answered (Some g)))) lawful w.types P (program_shares p w) answers kinds a.store (Resumes v g) n effects k.may k.fields (answered_agrees (Some g) e)
             (resumes_fit v g (waiting_is (activation_at a.activations call.owner) v i) e) z
 
     broken_known : Known answers kinds (broken number call.owner a)
     broken_known = by (waiting_on number (activation_at a.activations call.owner))
       where
-        set_with : (st : State Given) → is_open_state st ≡ false → ((t : TypeId) → StateFits (head_at p.types) answers kinds t st) → Known answers kinds (record a { table = set_state a.table number st })
+        set_with : (st : State Given) → is_open_state st ≡ false → ((t : TypeId) → StateFits (running p.types) answers kinds t st) → Known answers kinds (record a { table = set_state a.table number st })
         set_with st shut fits = record {
           may = k.may;
           fields = k.fields;
-          calls = agrees_set (head_at p.types) answers kinds a.table number st (λ t q. fits t) k.calls;
+          calls = agrees_set (running p.types) answers kinds a.table number st (λ t q. fits t) k.calls;
           waits = λ owner. fine_set p.types P lawful answers kinds a.table number st (activation_at a.activations owner) shut (k.waits owner);
         }
 
@@ -448,13 +447,13 @@ module _ (coding : Coding) (faithful : IsFaithful coding) (pays : Measure) (prog
   updates name caller bytes q a entry found r has few st =
       let t = st.0 in
       let p = t.program_of in
-      let k = typed_known coding faithful p t.well_typed t.no_parameters own short a st.1 in
+      let k = typed_known coding faithful p t.well_typed own short a st.1 in
       let is = method_is (program p) false name (program p).methods 0 entry (λ j m e. ap (slice_get (program p).methods) (omega arith) ∙ e) (subst (λ (x : actor.Program kernel). x.update name ≡ Some entry) t.is found) in
       let has' = subst (λ (x : actor.Program kernel). HasResult pays x.first_memory a.charged (entered x own a entry caller bytes) r) t.is has in (
         t,
-        update_typed coding faithful p t.well_typed t.no_parameters own short st.1.answers st.1.kinds a k r
+        update_typed coding faithful p t.well_typed own short st.1.answers st.1.kinds a k r
             (λ ps v e z. let c = completes (meant q t).first_memory a.charged (entered (meant q t) own a entry caller bytes) r has' ps v e z in
-            call_left coding faithful p t.well_typed t.no_parameters own short t.first st.1.answers st.1.kinds a entry caller bytes k is few c.0 e c.1),
+            call_left coding faithful p t.well_typed own short t.first st.1.answers st.1.kinds a entry caller bytes k is few c.0 e c.1),
       )
 
   answers_come : (number : ℕ) (received : Received) (q : actor.Program kernel) (a : Actor kernel) (call : Row) → call_at a.table number ≡ Some call → is_open_state call.state ≡ true → (r : Result (Effects kernel))
@@ -462,13 +461,13 @@ module _ (coding : Coding) (faithful : IsFaithful coding) (pays : Measure) (prog
   answers_come number received q a call found opened r has proper st =
       let t = st.0 in
       let p = t.program_of in
-      let k = typed_known coding faithful p t.well_typed t.no_parameters own short a st.1 in
+      let k = typed_known coding faithful p t.well_typed own short a st.1 in
       let has' = subst (λ (x : actor.Program kernel). HasResult pays x.first_memory a.charged (answering x own a number call received) r) t.is has in (
         t,
         subst (λ (x : actor.Program kernel). ActorTyped p.types (program p) (answer_outcome number call.owner (received_value x own a call received) a r).next) (sym t.is)
-            (answer_typed coding faithful p t.well_typed t.no_parameters own short t.first a st.1.answers st.1.kinds k number call found opened received proper r
+            (answer_typed coding faithful p t.well_typed own short t.first a st.1.answers st.1.kinds k number call found opened received proper r
             (λ ps v e z. let c = completes (meant q t).first_memory a.charged (answering (meant q t) own a number call received) r has' ps v e z in
-            answer_left coding faithful p t.well_typed t.no_parameters own short t.first a st.1.answers st.1.kinds k number call found opened received proper c.0 e c.1)),
+            answer_left coding faithful p t.well_typed own short t.first a st.1.answers st.1.kinds k number call found opened received proper c.0 e c.1)),
       )
 
   -- a start that completes
@@ -477,14 +476,14 @@ module _ (coding : Coding) (faithful : IsFaithful coding) (pays : Measure) (prog
   begins q t o first charged prints weight fields has =
       let p = t.program_of in
       let has' = subst (λ (x : actor.Program kernel). HasResult pays first charged (x.start own o) (Completed prints weight fields)) t.is has in
-      start_left p t.well_typed t.no_parameters (lawful_types p.types t.well_typed.types t.well_typed.basics) own short coding faithful (variables_share p.types t.well_typed.end p.stable t.well_typed.stable)
-      (messages_shareable p.types t.well_typed.types) o has'.0 fields (ap (λ x. x.completion) has'.2)
+      start_left p t.well_typed (lawful_types p.types t.well_typed.types t.well_typed.basics) own short coding faithful (variables_share p.types t.well_typed.end p.stable t.well_typed.stable)
+      t.well_typed.types o has'.0 fields (ap (λ x. x.completion) has'.2)
 
   install_typed : (number made : ℕ) (acts : List Standing) (q : actor.Program kernel) → slice_get programs number ≡ Some q → (r : Result Fields) → HasResult pays q.first_memory 0 (q.start own None) r → StateTyped coding (NoActor made acts)
       → StateTyped coding (installed q made acts r).next
   install_typed number made acts q found (Completed prints weight fields) has early =
       let t = typed number q found in
-      (t, started_typed coding faithful t.program_of t.well_typed t.no_parameters own short made acts fields weight (begins q t None q.first_memory 0 prints weight fields has) early)
+      (t, started_typed coding faithful t.program_of t.well_typed own short made acts fields weight (begins q t None q.first_memory 0 prints weight fields has) early)
   install_typed number made acts q found (Trapped prints text) has early = early
   install_typed number made acts q found (Exhausted prints cause) has early = early
 
@@ -493,7 +492,7 @@ module _ (coding : Coding) (faithful : IsFaithful coding) (pays : Measure) (prog
   upgrade_typed number old a q found before kept (Completed prints weight fields) has st =
       let t = typed number q found in (
         t,
-        started_typed coding faithful t.program_of t.well_typed t.no_parameters own short (next_number a.table) a.activations fields weight (begins q t (Some kept) q.first_memory 0 prints weight fields has)
+        started_typed coding faithful t.program_of t.well_typed own short (next_number a.table) a.activations fields weight (begins q t (Some kept) q.first_memory 0 prints weight fields has)
             (λ owner n v e. (st.1.waits owner n v e).made),
       )
   upgrade_typed number old a q found before kept (Trapped prints text) has st = st
@@ -503,17 +502,17 @@ module _ (coding : Coding) (faithful : IsFaithful coding) (pays : Measure) (prog
   rejected_typed q a st =
       let t = st.0 in
       let p = t.program_of in
-      let k = arrived_known coding faithful p t.well_typed t.no_parameters own short st.1.answers st.1.kinds a (typed_known coding faithful p t.well_typed t.no_parameters own short a st.1) in (
+      let k = arrived_known coding faithful p t.well_typed own short st.1.answers st.1.kinds a (typed_known coding faithful p t.well_typed own short a st.1) in (
         t,
-        known_typed coding faithful p t.well_typed t.no_parameters own short st.1.answers st.1.kinds (with_activation (length a.activations) IsAnswered (arrived a))
-            (set_known coding faithful p t.well_typed t.no_parameters own short st.1.answers st.1.kinds (arrived a) (length a.activations) IsAnswered k (answered_fine p.types (program p) st.1.answers st.1.kinds a.table)),
+        known_typed coding faithful p t.well_typed own short st.1.answers st.1.kinds (with_activation (length a.activations) IsAnswered (arrived a))
+            (set_known coding faithful p t.well_typed own short st.1.answers st.1.kinds (arrived a) (length a.activations) IsAnswered k (answered_fine p.types (program p) st.1.answers st.1.kinds a.table)),
       )
 
   queries : (q : actor.Program kernel) (a : Actor kernel) (r : Result (Effects kernel)) → StateTyped coding (Running q a) → StateTyped coding (Running q (query_outcome (length a.activations) (arrived a) r).next)
   queries q a r st =
       let t = st.0 in
       let p = t.program_of in
-      (t, query_typed coding faithful p t.well_typed t.no_parameters own short st.1.answers st.1.kinds a (typed_known coding faithful p t.well_typed t.no_parameters own short a st.1) r)
+      (t, query_typed coding faithful p t.well_typed own short st.1.answers st.1.kinds a (typed_known coding faithful p t.well_typed own short a st.1) r)
 
   no_canister_typed : (made : ℕ) (acts : List Standing) → StateTyped coding (NoActor made acts) → StateTyped coding (NoActor made (acts ++ IsAnswered ∷ []))
   no_canister_typed made acts early owner number v q = each_pushed acts IsAnswered (λ x. (n : ℕ) (u : Waiting) → x ≡ WaitsFor n u → n < made) (λ other n u e. early other n u e) (λ n u e. absurd (let z : IsAnswered ≡ WaitsFor n u = e in cc)) owner number v q

@@ -26,6 +26,8 @@ use Rattle.program_soundness.specs.Roles.{Role, AMethod, AHook, unused, in_group
 use Rattle.program_soundness.specs.Starting.{Soon, IsCollecting}
 use Rattle.program_soundness.proofs.Declared.{cells_put, roles_length}
 use Rattle.program_soundness.proofs.Roles.{covers_unused, roles_count}
+use Rattle.program_soundness.specs.Worlds.{running}
+use Rattle.mo_soundness.proofs.Put.{named}
 
 -- ---- names of functions become functions
 
@@ -83,7 +85,7 @@ hook_count : (o : Option Code) → length (hook_role o) ≡ length (optional_fun
 hook_count None = refl
 hook_count (Some f) = refl
 
-module _ (types : List Slot) (lawful : IsLawful (head_at types)) (answers : AnswerTypes) (kinds : List TypeId) where
+module _ (types : List Slot) (lawful : IsLawful (running types).head) (answers : AnswerTypes) (kinds : List TypeId) where
   tuple_soon : (e : Exp) (us : List Value) → e ≡ Do (action.Operate op.MakeTuple) (operands us) → Soon (head_at types) e (Made Tuple (values_of_list us))
   tuple_soon e us q = inr (op.MakeTuple, us, q, ap (λ s. answer.Gives (shape.Made Tuple s)) (listed_shapes us))
 
@@ -129,7 +131,7 @@ module _ (types : List Slot) (lawful : IsLawful (head_at types)) (answers : Answ
 
 -- ---- the whole
 
-module _ (p : Program) (lawful : IsLawful (head_at p.types)) (answers : AnswerTypes) (kinds : List TypeId) (group : Functions) (cells : Exps)
+module _ (p : Program) (lawful : IsLawful (running p.types).head) (answers : AnswerTypes) (kinds : List TypeId) (group : Functions) (cells : Exps)
     (typed : RolesTyped p.types answers kinds (in_group (roles_of p)) (roles_of p) group) (named : CellsNamed p.types answers kinds (in_group (roles_of p)) cells p.stable) where
   abbrev first : List Role
   first = map role_of p.methods

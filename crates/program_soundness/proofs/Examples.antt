@@ -29,7 +29,6 @@ use Rattle.mo_meaning.specs.Coding.{Coding}
 use Rattle.mo_meaning.specs.Starting.{start}
 use Rattle.program_soundness.specs.Examples.{basic_types, answers, IsStarted}
 use Rattle.typed_tree.specs.Basics.{HasBasics}
-use Rattle.program_soundness.specs.Parameters.{HasNoParameters}
 
 abbrev head : TypeId → Node TypeId
 head = head_at basic_types
@@ -50,9 +49,6 @@ no_parameter_at (suc zero) v b e = cc
 no_parameter_at (suc (suc zero)) v b e = cc
 no_parameter_at (suc (suc (suc zero))) v b e = cc
 no_parameter_at (suc (suc (suc (suc n)))) v b e = cc
-
-pub has_no_parameters : HasNoParameters basic_types
-has_no_parameters t b v e = no_parameter_at t.index v b e
 
 has_basics : HasBasics basic_types
 has_basics = record { flag = record { index = 2 }; is_flag = refl; unit = record { index = 3 }; is_unit = refl; natural = nat; is_natural = refl }
@@ -120,7 +116,7 @@ public_five c = record {
     nat,
     refl,
     refl,
-    (rules.functions basic_types (body_of sort.Query (a_nat five)) c asked).1 ([], sort_is, tt, refl, in_scope c.parameters, five_fits (in_body asked [] c), five_covered),
+    (rules.functions basic_types (body_of sort.Query (a_nat five)) c asked).1 ([], sort_is, tt, refl, (in_scope c.parameters, tt), five_fits (in_body asked [] c), five_covered),
   );
 }
 

@@ -1,7 +1,7 @@
 -- What an actor exports, with more answers and cells, and its parts as an execution looks for them.
 use Rattle.std.proofs.Common.{◌≡◌, inl, inr, ℕ, zero, suc, List, [], ◌∷◌, Some, None, refl, subst, slice_get}
 use Rattle.mo_types.specs.declared.node.TypeId.{TypeId}
-use Rattle.mo_types.specs.Graph.{Slot, head_at}
+use Rattle.mo_types.specs.Graph.{Slot}
 use Rattle.typed_tree.specs.Language.{Value, Values, NoValue, AValue}
 use Rattle.typed_tree.specs.Programs.{Program, Method, StableVariable}
 use Rattle.typed_tree.specs.Wants.{CellOf}
@@ -12,6 +12,7 @@ use Rattle.mo_soundness.proofs.More.{has_grow}
 use Rattle.program_soundness.specs.Exports.{MethodsTyped, HookTyped, CellsTyped, ExportsTyped}
 use Rattle.program_soundness.specs.Roles.{AMethod, AHook, IsFunctionAs}
 use Rattle.program_soundness.proofs.Roles.{function_grow}
+use Rattle.program_soundness.specs.Worlds.{running, kept_type}
 
 module _ (types : List Slot) (answers more : AnswerTypes) (knows : KnowsMore answers more) (kinds longer : List TypeId) (l : IsLonger kinds longer) where
   methods_grow : (ms : List Method) (vs : Values) → MethodsTyped types answers kinds ms vs → MethodsTyped types more longer ms vs
@@ -28,7 +29,7 @@ module _ (types : List Slot) (answers more : AnswerTypes) (knows : KnowsMore ans
   cells_grow [] NoValue h = tt
   cells_grow [] (AValue v vs) h = absurd h
   cells_grow (s ∷ ss) NoValue h = absurd h
-  cells_grow (s ∷ ss) (AValue v vs) h = (has_grow (head_at types) answers more knows kinds longer l v (CellOf s.of_type) h.0, cells_grow ss vs h.1)
+  cells_grow (s ∷ ss) (AValue v vs) h = (has_grow (running types) answers more knows kinds longer l v (CellOf (kept_type types s.of_type)) h.0, cells_grow ss vs h.1)
 
   pub exports_grow : (p : Program) (v : Value) → ExportsTyped types answers kinds p v → ExportsTyped types more longer p v
   exports_grow p v h = record {

@@ -6,7 +6,6 @@ use Rattle.play_script.specs.declared.item.Item.{Item}
 use Rattle.play_script.specs.declared.item.Word.TheVariants as word
 use Rattle.mo_types.specs.declared.node.TypeId.{TypeId}
 use Rattle.mo_types.specs.Calls.{Answered, call_at, is_open_state, open_count, set_state}
-use Rattle.mo_types.specs.Graph.{head_at}
 use Rattle.mo_types.specs.Sub.{Each, IsSomething}
 use Rattle.mo_values.specs.Shapes.{Bytes}
 use Rattle.mo_actor.specs.CallAnswers.{Received, Reply, Reject, received_value, received_reading, resumed, answering, answer_outcome, open_course, answer_course}
@@ -46,9 +45,8 @@ use Rattle.mo_meaning.specs.Messages.{unpacked}
 use Rattle.mo_soundness.specs.Lawful.{IsLawful}
 use Rattle.mo_soundness.specs.Running.{AnswerTypes, still}
 use Rattle.program_soundness.specs.Actors.{IsProper, IsNoInstallation, IsSaid, IsTypedProgram, AreTyped, StateTyped}
-use Rattle.program_soundness.specs.Agreement.{Agrees, MessagesAreShareable}
+use Rattle.program_soundness.specs.Agreement.{Agrees}
 use Rattle.program_soundness.specs.Bodies.{IsEntry, FieldsTyped, BodyFits, Shares}
-use Rattle.program_soundness.specs.Parameters.{HasNoParameters}
 use Rattle.program_soundness.specs.Results.{GivesResults, AreResults}
 use Rattle.program_soundness.specs.Runs.{Fitting, EndsFit, ReturnsOrTraps}
 use Rattle.program_soundness.specs.Starting.{AreExports}
@@ -56,12 +54,14 @@ use Rattle.program_soundness.specs.Starts.{IsStarting, quiet}
 use Rattle.program_soundness.proofs.Actors.{Known, typed_known, method_is, parameters_of, answered_agrees, waiting_is, resumes_fit, event_keeps}
 use Rattle.program_soundness.proofs.Bodies.{body_ends}
 use Rattle.program_soundness.proofs.Calls.{Standing}
-use Rattle.program_soundness.proofs.Given.{lawful_types, messages_shareable, program_shares, variables_share}
+use Rattle.program_soundness.proofs.Given.{lawful_types, program_shares, variables_share}
 use Rattle.program_soundness.proofs.Installs.{start_ends}
 use Rattle.program_soundness.proofs.Read.{read_typed}
 use Rattle.program_soundness.proofs.Saves.{hook_run_ends, hook_saves}
 use Rattle.program_soundness.proofs.Tables.{Entry as Row}
 use Rattle.program_soundness.proofs.Turns.{run_quiet}
+use Rattle.program_soundness.specs.Worlds.{running}
+use Rattle.typed_tree.specs.Types.{AreLawful}
 
 -- ---- executions
 
@@ -119,7 +119,7 @@ given_weigh s g (suc n) c = by (give s g c)
 
 module _ (s : Surroundings) (P : Fitting Exp) (results : List TypeId) (fields : Fields) (answers : AnswerTypes) (kinds : List TypeId) (n : ℕ) where
   abbrev Ends : Run → Type 0
-  Ends run = EndsFit s P (AreResults (head_at s.types) results) answers kinds run
+  Ends run = EndsFit s P (AreResults (running s.types) results) answers kinds run
 
   replies_go : (c : Configuration) (vs : List Value) (o : Option Bytes) → Ends (replies s vs o c) → Goes n (shared_progress fields results (replies s vs o c))
   replies_go c vs None h = absurd h.4
@@ -138,12 +138,12 @@ module _ (s : Surroundings) (P : Fitting Exp) (results : List TypeId) (fields : 
   reply_goes (Ended c (Traps text)) m h = inl tt
   reply_goes (Ended c Breaks) m h = absurd h.4
 
-body_goes : (s : Surroundings) (lawful : IsLawful (head_at s.types)) (shared : MessagesAreShareable (head_at s.types)) (p : Program) (shares : Shares s.types p) (answers : AnswerTypes) (kinds : List TypeId) (fields : Fields) (body : Body) → answers.may_call ≡ true → FieldsTyped s.types p answers kinds fields
-    → Agrees (head_at s.types) answers kinds s.table → BodyFits s.types p answers kinds body → GoesOn (body_execution s fields body)
+body_goes : (s : Surroundings) (lawful : IsLawful (running s.types).head) (shared : AreLawful s.types) (p : Program) (shares : Shares s.types p) (answers : AnswerTypes) (kinds : List TypeId) (fields : Fields) (body : Body) → answers.may_call ≡ true → FieldsTyped s.types p answers kinds fields
+    → Agrees (running s.types) answers kinds s.table → BodyFits s.types p answers kinds body → GoesOn (body_execution s fields body)
 body_goes s lawful shared p shares answers kinds fields (Enters entry caller vs) may h a b n =
-    reply_goes s (GivesResults (head_at s.types) entry.results) entry.results fields answers kinds n _ (turns_weigh s n _) (body_ends s lawful shared p shares answers kinds fields (Enters entry caller vs) n may h a b)
+    reply_goes s (GivesResults (running s.types) entry.results) entry.results fields answers kinds n _ (turns_weigh s n _) (body_ends s lawful shared p shares answers kinds fields (Enters entry caller vs) n may h a b)
 body_goes s lawful shared p shares answers kinds fields (Resumes w g) may h a b n =
-    reply_goes s (GivesResults (head_at s.types) w.results) w.results fields answers kinds n _ (given_weigh s g n _) (body_ends s lawful shared p shares answers kinds fields (Resumes w g) n may h a b)
+    reply_goes s (GivesResults (running s.types) w.results) w.results fields answers kinds n _ (given_weigh s g n _) (body_ends s lawful shared p shares answers kinds fields (Resumes w g) n may h a b)
 
 -- ---- starts and savings
 
@@ -168,29 +168,29 @@ save_goes coding types p exports n (Ended c Breaks) m h k = absurd (h c Breaks r
 
 -- ---- the executions of a typed program
 
-module _ (coding : Coding) (faithful : IsFaithful coding) (p : TypedProgram) (w : WellTyped p) (none : HasNoParameters p.types) (own : Bytes) (short : length own ≤ 29) (first : ℕ) where
+module _ (coding : Coding) (faithful : IsFaithful coding) (p : TypedProgram) (w : WellTyped p) (own : Bytes) (short : length own ≤ 29) (first : ℕ) where
   abbrev M : actor.Program kernel
   M = meaning coding first p.types (program p)
 
-  lawful : IsLawful (head_at p.types)
+  lawful : IsLawful (running p.types).head
   lawful = lawful_types p.types w.types w.basics
 
-  shared : MessagesAreShareable (head_at p.types)
-  shared = messages_shareable p.types w.types
+  shared : AreLawful p.types
+  shared = w.types
 
   program_starts : (kept : Option Kept) → GoesOn (M.start own kept)
   program_starts kept n =
       let run = turns (alone coding p.types own) n (start_from coding p.types (program p) own kept) in
       start_goes n run (turns_weigh (alone coding p.types own) n (start_from coding p.types (program p) own kept))
       (λ c end q. run_quiet (alone coding p.types own) (IsStarting p.types p kept) (AreExports p.types p) run c end quiet [] refl
-      (start_ends p w none lawful own short coding faithful (variables_share p.types w.end p.stable w.stable) shared kept n) q)
+      (start_ends p w lawful own short coding faithful (variables_share p.types w.end p.stable w.stable) shared kept n) q)
 
-  module _ (answers : AnswerTypes) (kinds : List TypeId) (a : Actor kernel) (k : Known coding faithful p w none own short answers kinds a) where
+  module _ (answers : AnswerTypes) (kinds : List TypeId) (a : Actor kernel) (k : Known coding faithful p w own short answers kinds a) where
     program_saves : GoesOn (M.save own a.store)
     program_saves n =
         let run = turns (alone coding p.types own) n (beginning 0 a.store.cells (hook (before_upgrade a.store.exports))) in
         save_goes coding p.types (program p) a.store.exports n run (turns_weigh (alone coding p.types own) n (beginning 0 a.store.cells (hook (before_upgrade a.store.exports))))
-        (λ c end q. run_quiet (alone coding p.types own) (GivesResults (head_at p.types) []) (AreResults (head_at p.types) []) run c end (still answers) kinds refl
+        (λ c end q. run_quiet (alone coding p.types own) (GivesResults (running p.types) []) (AreResults (running p.types) []) run c end (still answers) kinds refl
         (hook_run_ends coding p.types (program p) lawful shared own answers kinds a.store k.fields n) q)
         (λ c v q. hook_saves coding p.types (program p) lawful shared (program_shares p w).stable own answers kinds a.store k.fields n c v q)
 
@@ -208,7 +208,7 @@ module _ (coding : Coding) (faithful : IsFaithful coding) (p : TypedProgram) (w 
         by None e = trapping_goes (Effects kernel) (codes "bad argument") n
         by (Some vs) e =
             body_goes (surroundings coding p.types own a.table) lawful shared (program p) (program_shares p w) answers kinds a.store (Enters entry caller vs) k.may k.fields k.calls
-            (is, few, read_typed p.types lawful answers kinds coding faithful entry.parameters bytes vs (parameters_of coding faithful p w none own short entry is) e) n
+            (is, few, read_typed p.types w.types answers kinds coding faithful entry.parameters bytes vs (parameters_of coding faithful p w own short entry is) e) n
 
     answer_goes : (number : ℕ) (call : Row) → call_at a.table number ≡ Some call → is_open_state call.state ≡ true → (received : Received) → IsProper (event_of number received) → GoesOn (answering M own a number call received)
     answer_goes number call found opened received proper n =
@@ -219,9 +219,9 @@ module _ (coding : Coding) (faithful : IsFaithful coding) (p : TypedProgram) (w 
         by (Some g) e None i = inl tt
         by (Some g) e (Some v) i =
             body_goes (surroundings coding p.types own (set_state a.table number (Answered (Some g)))) lawful shared (program p) (program_shares p w) answers kinds a.store (Resumes v g) k.may k.fields
-            (answered_agrees coding faithful p w none own short first a answers kinds k number call found opened received proper (Some g) e)
-            (resumes_fit coding faithful p w none own short first a answers kinds k number call found opened received proper v g
-            (waiting_is coding faithful p w none own short first a answers kinds k number call found opened received proper (activation_at a.activations call.owner) v i) e) n
+            (answered_agrees coding faithful p w own short first a answers kinds k number call found opened received proper (Some g) e)
+            (resumes_fit coding faithful p w own short first a answers kinds k number call found opened received proper v g
+            (waiting_is coding faithful p w own short first a answers kinds k number call found opened received proper (activation_at a.activations call.owner) v i) e) n
 
 -- ---- courses
 
@@ -240,7 +240,7 @@ module _ (coding : Coding) (faithful : IsFaithful coding) (steps stack pages : �
   one_run : {S A : Type 0} (first charged : ℕ) (x : Execution A) (f : Result A → Outcome S) → GoesOn x → Comes (Runs A first charged x (λ r. Over (f r)))
   one_run first charged x f g = let r = settled steps stack pages first charged x g in (f r.0, (r.0, r.1, refl))
 
-  module _ (p : TypedProgram) (w : WellTyped p) (none : HasNoParameters p.types) (first : ℕ) (answers : AnswerTypes) (kinds : List TypeId) (a : Actor kernel) (k : Known coding faithful p w none own short answers kinds a) where
+  module _ (p : TypedProgram) (w : WellTyped p) (first : ℕ) (answers : AnswerTypes) (kinds : List TypeId) (a : Actor kernel) (k : Known coding faithful p w own short answers kinds a) where
     abbrev N : actor.Program kernel
     N = meaning coding first p.types (program p)
 
@@ -250,18 +250,18 @@ module _ (coding : Coding) (faithful : IsFaithful coding) (steps stack pages : �
     query_comes : (name caller bytes : Bytes) → length caller ≤ 29 → (o : Option Entry) → N.query name ≡ o → Comes (query_course N own a o caller bytes)
     query_comes name caller bytes few None found = (_, refl)
     query_comes name caller bytes few (Some entry) found =
-        one_run first a.charged (entered N own a entry caller bytes) (λ r. query_outcome (length a.activations) (arrived a) r) (call_goes coding faithful p w none own short first answers kinds a k entry caller bytes (entry_is true name entry found) few)
+        one_run first a.charged (entered N own a entry caller bytes) (λ r. query_outcome (length a.activations) (arrived a) r) (call_goes coding faithful p w own short first answers kinds a k entry caller bytes (entry_is true name entry found) few)
 
     update_comes : (name caller bytes : Bytes) → length caller ≤ 29 → (o : Option Entry) → N.update name ≡ o → Comes (update_course N own a o (N.query name) caller bytes)
     update_comes name caller bytes few None found = query_comes name caller bytes few (N.query name) refl
     update_comes name caller bytes few (Some entry) found =
-        one_run first a.charged (entered N own a entry caller bytes) (λ r. update_outcome (length a.activations) (arrived a) r) (call_goes coding faithful p w none own short first answers kinds a k entry caller bytes (entry_is false name entry found) few)
+        one_run first a.charged (entered N own a entry caller bytes) (λ r. update_outcome (length a.activations) (arrived a) r) (call_goes coding faithful p w own short first answers kinds a k entry caller bytes (entry_is false name entry found) few)
 
     open_comes : (number : ℕ) (received : Received) → IsProper (event_of number received) → (call : Row) → call_at a.table number ≡ Some call → (b : Bool) → is_open_state call.state ≡ b → Comes (open_course N own a b number call received)
     open_comes number received proper call found false opened = (_, refl)
     open_comes number received proper call found true opened =
         one_run first a.charged (answering N own a number call received) (λ r. answer_outcome number call.owner (received_value N own a call received) a r)
-        (answer_goes coding faithful p w none own short first answers kinds a k number call found opened received proper)
+        (answer_goes coding faithful p w own short first answers kinds a k number call found opened received proper)
 
     answer_comes : (number : ℕ) (received : Received) → IsProper (event_of number received) → (o : Option Row) → call_at a.table number ≡ o → Comes (answer_course N own a number received o)
     answer_comes number received proper None found = (_, refl)
@@ -280,7 +280,7 @@ module _ (coding : Coding) (faithful : IsFaithful coding) (steps stack pages : �
   start_comes : (q : actor.Program kernel) (t : IsTypedProgram coding q) (kept : Option Kept) → GoesOn (q.start own kept)
   start_comes q t kept =
       let p = t.program_of in
-      subst (λ (x : actor.Program kernel). GoesOn (x.start own kept)) (sym t.is) (program_starts coding faithful p t.well_typed t.no_parameters own short t.first kept)
+      subst (λ (x : actor.Program kernel). GoesOn (x.start own kept)) (sym t.is) (program_starts coding faithful p t.well_typed own short t.first kept)
 
   install_comes : (number made : ℕ) (activations : List Standing) (o : Option (actor.Program kernel)) → slice_get programs number ≡ o → Comes (install_course own made activations o)
   install_comes number made activations None found = (_, refl)
@@ -291,15 +291,15 @@ module _ (coding : Coding) (faithful : IsFaithful coding) (steps stack pages : �
   saved_comes old a q t (Trapped prints text) = (_, refl)
   saved_comes old a q t (Exhausted prints cause) = (_, refl)
 
-  state_known : (q : actor.Program kernel) (a : Actor kernel) (st : StateTyped coding (Running q a)) → Known coding faithful st.0.program_of st.0.well_typed st.0.no_parameters own short st.1.answers st.1.kinds a
-  state_known q a st = typed_known coding faithful st.0.program_of st.0.well_typed st.0.no_parameters own short a st.1
+  state_known : (q : actor.Program kernel) (a : Actor kernel) (st : StateTyped coding (Running q a)) → Known coding faithful st.0.program_of st.0.well_typed own short st.1.answers st.1.kinds a
+  state_known q a st = typed_known coding faithful st.0.program_of st.0.well_typed own short a st.1
 
   upgrade_comes : (number : ℕ) (old : actor.Program kernel) (a : Actor kernel) (st : StateTyped coding (Running old a)) (o : Option (actor.Program kernel)) → slice_get programs number ≡ o → Comes (upgrade_course own old a o)
   upgrade_comes number old a st None found = (_, refl)
   upgrade_comes number old a st (Some q) found =
       let t = st.0 in
       let goes : GoesOn (saving old own a) =
-      subst (λ (x : actor.Program kernel). GoesOn (saving x own a)) (sym t.is) (saving_goes coding faithful t.program_of t.well_typed t.no_parameters own short t.first st.1.answers st.1.kinds a (state_known old a st)) in
+      subst (λ (x : actor.Program kernel). GoesOn (saving x own a)) (sym t.is) (saving_goes coding faithful t.program_of t.well_typed own short t.first st.1.answers st.1.kinds a (state_known old a st)) in
       let r = settled steps stack pages old.first_memory a.charged (saving old own a) goes in
       let next = saved_comes old a q (typed number q found) r.0 in
       (next.0, (r.0, r.1, next.1))
@@ -310,7 +310,7 @@ module _ (coding : Coding) (faithful : IsFaithful coding) (steps stack pages : �
       life : (e : Event) → IsProper e → IsLived e → Comes (life_course q own e a)
       life e proper lived =
           let t = st.0 in
-          subst (λ (x : actor.Program kernel). Comes (life_course x own e a)) (sym t.is) (life_comes t.program_of t.well_typed t.no_parameters t.first st.1.answers st.1.kinds a (state_known q a st) e proper lived)
+          subst (λ (x : actor.Program kernel). Comes (life_course x own e a)) (sym t.is) (life_comes t.program_of t.well_typed t.first st.1.answers st.1.kinds a (state_known q a st) e proper lived)
 
       by : (e : Event) → IsProper e → IsLived e → Comes (event_course programs own e (Running q a))
       by (event.Call query name caller bytes) proper lived = let c = life (event.Call query name caller bytes) proper lived in (_, to_states pays (Running q) (life_course q own (event.Call query name caller bytes) a) c.0 c.1)

@@ -20,12 +20,12 @@ use Rattle.typed_tree.specs.declared.program.Program.{Program}
 use Rattle.typed_tree.specs.declared.program.StableVariable.{StableVariable}
 use Rattle.typed_tree.specs.ActionTypes.{Context}
 use Rattle.typed_tree.specs.Language.{Value, Exp, NoValue, leaf}
-use Rattle.typed_tree.specs.Opening.{Code, values_of}
+use Rattle.typed_tree.specs.Opening.{Code, value_of, values_of}
 use Rattle.typed_tree.specs.ProgramView.{method, stable_variable, program}
 use Rattle.typed_tree.specs.Shareable.{IsShareable}
 use Rattle.typed_tree.specs.Substitution.{Slots}
 use Rattle.typed_tree.specs.Wants.{Want, Anything, Of, KeptOf}
-use Rattle.typed_tree.specs.WellTyped.{WellTyped, sort_of, IsActor, AreMethods, IsPublic, around, behind}
+use Rattle.typed_tree.specs.WellTyped.{WellTyped, sort_of, IsActor, AreMethods, IsPublic, behind}
 use Rattle.mo_meaning.specs.Coding.{Types, Coding, IsFaithful}
 use Rattle.mo_meaning.specs.Configurations.{Returns, Responds, Suspends, Sleeps, Traps, Breaks, Run, Still, Ended, Surroundings}
 use Rattle.mo_meaning.specs.Kernel.{Fields, Kept}
@@ -38,11 +38,8 @@ use Rattle.mo_soundness.specs.Lawful.{IsLawful}
 use Rattle.mo_soundness.specs.Running.{AnswerTypes, HasValue, HaveValues}
 use Rattle.mo_soundness.proofs.Found.{made_at}
 use Rattle.mo_soundness.proofs.More.{longer_self, store_grow}
-use Rattle.mo_soundness.proofs.Put.{Covers}
-use Rattle.program_soundness.specs.Agreement.{MessagesAreShareable}
+use Rattle.mo_soundness.proofs.Put.{Covers, NameFits}
 use Rattle.program_soundness.specs.Bodies.{FieldsTyped}
-use Rattle.program_soundness.specs.Opening.{seen}
-use Rattle.program_soundness.specs.Parameters.{HasNoParameters}
 use Rattle.program_soundness.specs.Roles.{calling}
 use Rattle.program_soundness.specs.Runs.{Fitting, EndsFit}
 use Rattle.program_soundness.specs.Starting.{IsInstalling, AreExports, IsUpgrading, Refused, Begun}
@@ -54,6 +51,18 @@ use Rattle.program_soundness.proofs.Reading.{opened_have}
 use Rattle.program_soundness.proofs.Starts.{installing_kept}
 use Rattle.program_soundness.proofs.Turns.{turns_fit, run_ends}
 use Rattle.program_soundness.proofs.Upgrading.{upgrading_kept}
+use Rattle.program_soundness.specs.Worlds.{running, kept_type}
+use Rattle.program_soundness.proofs.Carried.{self_most, kept_back}
+use Rattle.program_soundness.specs.Declared.{around_declarations}
+use Rattle.mo_types.specs.declared.node.Node.{Node}
+use Rattle.typed_tree.proofs.OwnLabels.{labels_own}
+use Rattle.mo_subtype.specs.Renamed.{on_field, on_node}
+use Rattle.closed_types.proofs.Expanded.{closing}
+use Rattle.closed_types.specs.Closings.{IsNoVariable}
+use Rattle.closed_rules.specs.ClosedWants.{close_want, close_wants}
+use Rattle.closed_rules.proofs.Heads.{at}
+use Rattle.typed_tree.specs.Types.{AreLawful}
+use Rattle.mo_soundness.specs.Worlds.{plain_world}
 
 -- ---- kept values at their types
 
@@ -62,11 +71,11 @@ module _ (types : List Slot) (answers : AnswerTypes) (kinds : List TypeId) where
   abbrev pub KeptFit : List (Option Value) → List StableVariable → Type 0
   KeptFit [] [] = Unit {0}
   KeptFit (None ∷ os) (v ∷ vs) = KeptFit os vs
-  KeptFit (Some x ∷ os) (v ∷ vs) = HasValue (head_at types) answers kinds (Of v.of_type) x × KeptFit os vs
+  KeptFit (Some x ∷ os) (v ∷ vs) = HasValue (running types) answers kinds (Of (kept_type types v.of_type)) x × KeptFit os vs
   KeptFit _ _ = ⊥
 
   abbrev TakenFits : TypeId → Taken → Type 0
-  TakenFits t (Value? x) = HasValue (head_at types) answers kinds (Of t) x
+  TakenFits t (Value? x) = HasValue (running types) answers kinds (Of (kept_type types t)) x
   TakenFits t _ = Unit {0}
 
   abbrev TakenFit : List Taken → List StableVariable → Type 0
@@ -90,14 +99,14 @@ module _ (types : List Slot) (answers : AnswerTypes) (kinds : List TypeId) where
       by Fresh (Some ks) e i z later = subst (λ os. KeptFit os (v ∷ vs)) (let same : None ∷ ks ≡ os = cc in same) (later ks e)
       by (Value? x) (Some ks) e i z later = subst (λ os. KeptFit os (v ∷ vs)) (let same : Some x ∷ ks ≡ os = cc in same) (i, later ks e)
 
-  module _ (lawful : IsLawful (head_at types)) where
-    first_fits : (t : TypeId) (s : Shapes Code) → HaveValues (head_at types) answers kinds (Of t ∷ []) (values_of s) → TakenFits t (first_value (as_values (listed s)))
-    first_fits t NoShape h = tt
-    first_fits t (AShape s rest) h = h.0
+  module _ (graph : AreLawful types) where
+    first_fits : (t : TypeId) (s : Shapes Code) → IsShareable (head_at types) t → HaveValues (plain_world (head_at types)) answers kinds (Of t ∷ []) (values_of s) → TakenFits t (first_value (as_values (listed s)))
+    first_fits t NoShape sh h = tt
+    first_fits t (AShape s rest) sh h = kept_back types graph answers kinds t (value_of s) sh h.0
 
     value_fits : (t : TypeId) (o : Option message.Values) → IsShareable (head_at types) t → ((values : message.Values) → o ≡ Some values → message.HaveTypes (head_at types) (t ∷ []) values) → TakenFits t (taken_values types t o)
     value_fits t None sh h = tt
-    value_fits t (Some values) sh h = first_fits t (opened (head_at types) (t ∷ []) values) (opened_have (head_at types) answers kinds lawful values (t ∷ []) (sh, tt) (h values refl))
+    value_fits t (Some values) sh h = first_fits t (opened (head_at types) (t ∷ []) values) sh (opened_have (head_at types) answers kinds (labels_own types graph) values (t ∷ []) (sh, tt) (h values refl))
 
     module _ (coding : Coding) (faithful : IsFaithful coding) (old : Types) where
       one_taken : (v : StableVariable) (o : Option (Variable TypeId)) → IsShareable (head_at types) v.of_type → TakenFits v.of_type (taken coding old types (stable_variable v) o)
@@ -110,18 +119,23 @@ module _ (types : List Slot) (answers : AnswerTypes) (kinds : List TypeId) where
 
 -- ---- the names around the declarations
 
-module _ (types : List Slot) (lawful : IsLawful (head_at types)) (answers : AnswerTypes) (kinds : List TypeId) (own : Bytes) (short : length own ≤ 29) where
+module _ (types : List Slot) (lawful : IsLawful (running types).head) (answers : AnswerTypes) (kinds : List TypeId) (own : Bytes) (short : length own ≤ 29) where
+  abbrev closed_at : (t : TypeId) (x : Node TypeId) → head_at types t ≡ x → IsNoVariable x → (running types).head (kept_type types t) ≡ on_node (kept_type types) x
+  closed_at t x e i = at (head_at types) (running types).head (closing types (length types) (self_most (length types)) []) t x e i
+
   abbrev Has : Want TypeId → Value → Type 0
-  Has = HasValue (head_at types) answers kinds
+  Has = HasValue (running types) answers kinds
 
-  actor_has : (ms : List Method) (w : Want TypeId) → IsActor types ms w → Has w (leaf (part.Actor own))
-  actor_has ms w (inl e) = subst (λ w. Has w (leaf (part.Actor own))) (sym e) tt
-  actor_has ms w (inr h) = subst (λ w. Has w (leaf (part.Actor own))) (sym h.5) (made_at (head_at types) answers kinds h.0 (node.Actor h.1) (Leaf (part.Actor own)) NoValue h.2 ((tt, short), tt))
+  actor_has : (ms : List Method) (w : Want TypeId) → IsActor types ms w → NameFits (running types) answers kinds (close_want (kept_type types) w) (leaf (part.Actor own))
+  actor_has ms w (inl e) = subst (λ w. NameFits (running types) answers kinds (close_want (kept_type types) w) (leaf (part.Actor own))) (sym e) tt
+  actor_has ms w (inr h) = subst (λ w. NameFits (running types) answers kinds (close_want (kept_type types) w) (leaf (part.Actor own))) (sym h.5)
+      (made_at (running types) answers kinds (kept_type types h.0) (node.Actor (map (on_field (kept_type types)) h.1)) (Leaf (part.Actor own)) NoValue (closed_at h.0 (node.Actor h.1) h.2 refl) ((tt, short), tt))
 
-  shared_fits : (s : Sort) (t : TypeId) (ps rs : List TypeId) (name : Bytes) → s ≢ sort.Local → head_at types t ≡ node.Func s ps rs → message.is_method_name name ≡ true → Has (Of t) (leaf (part.Method own name))
-  shared_fits s t ps rs name other q i = made_at (head_at types) answers kinds t (node.Func s ps rs) (Leaf (part.Method own name)) NoValue q ((tt, (other, short, i)), tt)
+  shared_fits : (s : Sort) (t : TypeId) (ps rs : List TypeId) (name : Bytes) → s ≢ sort.Local → head_at types t ≡ node.Func s ps rs → message.is_method_name name ≡ true → Has (Of (kept_type types t)) (leaf (part.Method own name))
+  shared_fits s t ps rs name other q i =
+      made_at (running types) answers kinds (kept_type types t) (node.Func s (map (kept_type types) ps) (map (kept_type types) rs)) (Leaf (part.Method own name)) NoValue (closed_at t (node.Func s ps rs) q refl) ((tt, (other, short, i)), tt)
 
-  kept_cover : (os : List (Option Value)) (vs : List StableVariable) → KeptFit types answers kinds os vs → Covers (head_at types) answers lawful kinds (map kept_slot os) (map (λ v. KeptOf v.of_type) vs) []
+  kept_cover : (os : List (Option Value)) (vs : List StableVariable) → KeptFit types answers kinds os vs → Covers (running types) answers lawful kinds (map kept_slot os) (map (λ v. KeptOf (kept_type types v.of_type)) vs) []
   kept_cover [] [] h = refl
   kept_cover [] (v ∷ vs) h = absurd h
   kept_cover (None ∷ os) [] h = absurd h
@@ -130,15 +144,15 @@ module _ (types : List Slot) (lawful : IsLawful (head_at types)) (answers : Answ
   kept_cover (Some x ∷ os) (v ∷ vs) h = (refl, (h.0, tt), kept_cover os vs h.1)
 
   methods_cover : (p : Program) (w : WellTyped p) (ms : List Method) (ws : List (Want TypeId)) (s : Slots) (us : List (Want TypeId)) → AreMethods types ms ws → Each (λ m. (message.is_method_name m.name ≡ true) × (sort_of m ≢ sort.Local)) ms
-      → Covers (head_at types) answers lawful kinds s us [] → Covers (head_at types) answers lawful kinds (map (method_slot own) (map method ms) ++ s) (ws ++ us) []
+      → Covers (running types) answers lawful kinds s us [] → Covers (running types) answers lawful kinds (map (method_slot own) (map method ms) ++ s) (close_wants (kept_type types) ws ++ us) []
   methods_cover p w [] [] s us h i c = c
   methods_cover p w [] (k ∷ ws) s us h i c = absurd h
   methods_cover p w (m ∷ ms) [] s us h i c = absurd h
   methods_cover p w (m ∷ ms) (k ∷ ws) s us h i c = (refl, by h.0, methods_cover p w ms ws s us h.1 i.1 c)
     where
-      by : (k ≡ Anything) ⊎ ((t : TypeId) × (head_at types t ≡ node.Func (sort_of m) m.parameters m.results) × (k ≡ Of t)) → Has k (leaf (part.Method own m.name))
-      by (inl e) = subst (λ k. Has k (leaf (part.Method own m.name))) (sym e) tt
-      by (inr q) = subst (λ k. Has k (leaf (part.Method own m.name))) (sym q.2) (shared_fits (sort_of m) q.0 m.parameters m.results m.name i.0.1 q.1 i.0.0)
+      by : (k ≡ Anything) ⊎ ((t : TypeId) × (head_at types t ≡ node.Func (sort_of m) m.parameters m.results) × (k ≡ Of t)) → NameFits (running types) answers kinds (close_want (kept_type types) k) (leaf (part.Method own m.name))
+      by (inl e) = subst (λ k. NameFits (running types) answers kinds (close_want (kept_type types) k) (leaf (part.Method own m.name))) (sym e) tt
+      by (inr q) = subst (λ k. NameFits (running types) answers kinds (close_want (kept_type types) k) (leaf (part.Method own m.name))) (sym q.2) (shared_fits (sort_of m) q.0 m.parameters m.results m.name i.0.1 q.1 i.0.0)
 
 public_names : (p : Program) (c : Context) (ms : List Method) → Each (IsPublic p.types c) ms → Each (λ m. (message.is_method_name m.name ≡ true) × (sort_of m ≢ sort.Local)) ms
 public_names p c [] h = tt
@@ -146,19 +160,19 @@ public_names p c (m ∷ ms) h = ((h.0.name.0, h.0.shared), public_names p c ms h
 
 -- ---- the start
 
-module _ (p : Program) (w : WellTyped p) (none : HasNoParameters p.types) (lawful : IsLawful (head_at p.types)) (own : Bytes) (short : length own ≤ 29) where
+module _ (p : Program) (w : WellTyped p) (lawful : IsLawful (running p.types).head) (own : Bytes) (short : length own ≤ 29) where
   pub installing : (answers : AnswerTypes) (kinds : List TypeId) (kept : List (Option Value)) → KeptFit p.types answers kinds kept p.stable → IsInstalling p.types p answers kinds (declarations own (program p) kept)
   installing answers kinds kept h = inl (
     p.nodes,
     _,
     refl,
-    inl (declared_put p.types lawful answers kinds p (seen (around p.types w.own w.methods p.stable)) (program p).body (outer_slots own (program p).methods kept) [] (
+    inl (declared_put p.types lawful answers kinds p (around_declarations p.types w.own w.methods p.stable) (program p).body (outer_slots own (program p).methods kept) [] (
       refl,
       actor_has p.types lawful answers kinds own short p.methods w.own w.own_is,
-      methods_cover p.types lawful answers kinds own short p w p.methods w.methods (map kept_slot kept) (map (λ v. KeptOf v.of_type) p.stable) w.methods_are (public_names p (behind p w.end) p.methods w.public)
+      methods_cover p.types lawful answers kinds own short p w p.methods w.methods (map kept_slot kept) (map (λ v. KeptOf (kept_type p.types v.of_type)) p.stable) w.methods_are (public_names p (behind p w.end) p.methods w.public)
           (kept_cover p.types lawful answers kinds own short kept p.stable h),
     )
-        (program_declared p w none lawful answers kinds)),
+        (program_declared p w lawful answers kinds)),
   )
 
   module _ (coding : Coding) (faithful : IsFaithful coding) (shares : Each (λ v. IsShareable (head_at p.types) v.of_type) p.stable) where
@@ -172,9 +186,9 @@ module _ (p : Program) (w : WellTyped p) (none : HasNoParameters p.types) (lawfu
         by None q = Refused refl
         by (Some os) q = Begun (declarations own (program p) os) refl
             (installing quiet [] os (kept_fit p.types quiet [] (all_taken coding kept.types p.types kept.variables (program p).stable) p.stable os
-            (taken_fit p.types quiet [] lawful coding faithful kept.types kept.variables p.stable shares) q))
+            (taken_fit p.types quiet [] w.types coding faithful kept.types kept.variables p.stable shares) q))
 
-    pub start_ends : MessagesAreShareable (head_at p.types) → (o : Option Kept) (n : ℕ) → EndsFit s (IsStarting p.types p o) (AreExports p.types p) quiet [] (turns s n (start_from coding p.types (program p) own o))
+    pub start_ends : AreLawful p.types → (o : Option Kept) (n : ℕ) → EndsFit s (IsStarting p.types p o) (AreExports p.types p) quiet [] (turns s n (start_from coding p.types (program p) own o))
     start_ends shared None n =
         run_ends s lawful shared (IsInstalling p.types p) (AreExports p.types p) (installing_kept p lawful) _ quiet []
         (turns_fit s lawful shared (IsInstalling p.types p) (AreExports p.types p) (installing_kept p lawful) n (start_from coding p.types (program p) own None) quiet []
@@ -197,7 +211,7 @@ module _ (p : Program) (w : WellTyped p) (none : HasNoParameters p.types) (lawfu
         let knows : KnowsMore h.0 (calling quiet) = subst (λ a. KnowsMore a (calling quiet)) (sym same) (λ n t e. e, λ e. refl) in (
           h.1,
           subst (FieldsTyped p.types (program p) (calling quiet) h.1) (ap (λ o. cells_in o fields) q) (record {
-            cells = store_grow (head_at p.types) h.0 (calling quiet) knows h.1 h.1 (longer_self h.1) c.store h.1 h.4.0.0;
+            cells = store_grow (running p.types) h.0 (calling quiet) knows h.1 h.1 (longer_self h.1) c.store h.1 h.4.0.0;
             exports = exports_grow p.types h.0 (calling quiet) knows h.1 h.1 (longer_self h.1) (program p) v h.4.1;
           }),
         )
@@ -207,5 +221,5 @@ module _ (p : Program) (w : WellTyped p) (none : HasNoParameters p.types) (lawfu
     fields_left P (Ended c (Traps text)) fields h q = absurd cc
     fields_left P (Ended c Breaks) fields h q = absurd cc
 
-    pub start_left : MessagesAreShareable (head_at p.types) → (o : Option Kept) (n : ℕ) (fields : Fields) → (start coding p.types (program p) own o n).completion ≡ Some (Completes fields) → (kinds : List TypeId) × FieldsTyped p.types (program p) (calling quiet) kinds fields
+    pub start_left : AreLawful p.types → (o : Option Kept) (n : ℕ) (fields : Fields) → (start coding p.types (program p) own o n).completion ≡ Some (Completes fields) → (kinds : List TypeId) × FieldsTyped p.types (program p) (calling quiet) kinds fields
     start_left shared o n fields q = fields_left (IsStarting p.types p o) (turns s n (start_from coding p.types (program p) own o)) fields (start_ends shared o n) q

@@ -1,5 +1,4 @@
-pub mod Patterns
-pub mod Trees
+pub mod Carried
 pub mod Tables
 pub mod Shareable
 pub mod Reading

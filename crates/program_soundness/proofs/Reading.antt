@@ -20,9 +20,9 @@ use Rattle.typed_tree.specs.Language.{Values, NoValue, AValue}
 use Rattle.typed_tree.specs.Opening.{shapes_of, values_of}
 use Rattle.typed_tree.specs.Shareable.{HasShareableForm, PartsShareable, IsShareable}
 use Rattle.typed_tree.specs.Wants.{Want, Of}
-use Rattle.mo_soundness.specs.Lawful.{IsLawful}
 use Rattle.mo_soundness.specs.Running.{AnswerTypes, Fits, HasValue, HaveValues}
 use Rattle.program_soundness.proofs.Shareable as shareable
+use Rattle.mo_soundness.specs.Worlds.{plain_world}
 
 -- ---- fields in the order of messages
 
@@ -74,7 +74,7 @@ told_want fs g h = ap field_want h.0 ∙ ap (λ b. by_mutability b g.part) h.1
 
 module _ (head : TypeId → Node TypeId) (answers : AnswerTypes) (kinds : List TypeId) where
   abbrev Have : List (Want TypeId) → Values → Type 0
-  Have = HaveValues head answers kinds
+  Have = HaveValues (plain_world head) answers kinds
 
   abbrev of_types : List TypeId → List (Want TypeId)
   of_types ts = map (λ t. Of t) ts
@@ -82,7 +82,7 @@ module _ (head : TypeId → Node TypeId) (answers : AnswerTypes) (kinds : List T
   told_have : (fs gs : List (Field TypeId)) → Each (IsTold fs) gs → (vs : Values) → Have (of_types (types_of gs)) vs → Have (map (λ l. field_want (find l fs)) (labels gs)) vs
   told_have fs [] i vs h = h
   told_have fs (g ∷ gs) i NoValue h = absurd h
-  told_have fs (g ∷ gs) i (AValue v vs) h = (subst (λ w. HasValue head answers kinds w v) (sym (told_want fs g i.0)) h.0, told_have fs gs i.1 vs h.1)
+  told_have fs (g ∷ gs) i (AValue v vs) h = (subst (λ w. HasValue (plain_world head) answers kinds w v) (sym (told_want fs g i.0)) h.0, told_have fs gs i.1 vs h.1)
 
   copies_have : (n : ℕ) (a : TypeId) (vs : Values) → Have (of_types (copies n a)) vs → Have (copies (count (shapes_of vs)) (Of a)) vs
   copies_have zero a NoValue h = tt
@@ -155,7 +155,7 @@ module _ (head : TypeId → Node TypeId) (answers : AnswerTypes) (kinds : List T
       one_part (g ∷ gs) (suc j) k = one_part gs j k.1
   inside_shareable x p i h = tt
 
-  module _ (lawful : IsLawful head) where
+  module _ (own : (t : TypeId) → OwnLabels (head t)) where
     pub opened_have : (values : message.Values) (ts : List TypeId) → Each (IsShareable head) ts → HaveTypes head ts values → Have (of_types ts) (values_of (opened head ts values))
     opened_have message.Nil [] s h = tt
     opened_have message.Nil (t ∷ ts) s h = absurd h
@@ -163,4 +163,4 @@ module _ (head : TypeId → Node TypeId) (answers : AnswerTypes) (kinds : List T
     opened_have (message.Value p inner others) (t ∷ ts) s h =
         let o = shareable.opened head t s.0 in
         let k = opened_have inner (message.inside (head t) p) (inside_shareable (head t) p h.0 o.1) h.1 in
-        (part_holds (head t) p (values_of (opened head (message.inside (head t) p) inner)) (lawful.own t) o.0 h.0 k, opened_have others ts s.1 h.2)
+        (part_holds (head t) p (values_of (opened head (message.inside (head t) p) inner)) (own t) o.0 h.0 k, opened_have others ts s.1 h.2)

@@ -1,7 +1,7 @@
 -- The functions behind an actor's declarations: with values in the place of outer names, and with more answers and cells.
 use Rattle.std.proofs.Common.{◌≡◌, inl, inr, ℕ, zero, suc, ◌+◌, List, [], ◌∷◌, ◌++◌, length, length-append, map, Some, None, refl, sym, ap, ap₂, ◌∙◌, arith}
 use Rattle.mo_types.specs.declared.node.TypeId.{TypeId}
-use Rattle.mo_types.specs.Graph.{Slot, head_at}
+use Rattle.mo_types.specs.Graph.{Slot}
 use Rattle.mo_types.specs.Values.{copies}
 use Rattle.typed_tree.specs.Language.{Value, Exp, Functions, Function, NoFunction, AFunction}
 use Rattle.typed_tree.specs.Patterns.{Pat, Pats, NoPat, APat, names, names_all}
@@ -10,15 +10,16 @@ use Rattle.typed_tree.specs.Wants.{Want, Anything, Of, in_function}
 use Rattle.mo_soundness.specs.Keeps.{IsLonger, KnowsMore}
 use Rattle.mo_soundness.specs.Lawful.{IsLawful}
 use Rattle.mo_soundness.specs.Running.{Around, AnswerTypes, still, in_body}
-use Rattle.mo_soundness.proofs.More.{longer_self, has_grow, still_more, typed_grow}
-use Rattle.mo_soundness.proofs.Put.{Covers, covers_hide, covers_function, covers_still, pattern_names, patterns_names, put_typed}
+use Rattle.mo_soundness.proofs.More.{longer_self, still_more, typed_grow}
+use Rattle.mo_soundness.proofs.Put.{Covers, covers_hide, covers_function, covers_still, pattern_names, patterns_names, put_typed, name_grow}
 use Rattle.program_soundness.specs.Roles.{Role, AMethod, AHook, calling, in_group, ContextBinds, PlaysRole, RolesTyped, IsFunctionAs}
+use Rattle.program_soundness.specs.Worlds.{running}
 
 context_names : (types : List Slot) (p : Pat) (ns : List (Want TypeId)) → ContextBinds types p ns → length ns ≡ names p
 context_names types p ns (inl h) = ap length h.1 ∙ ap names (sym h.0)
-context_names types p ns (inr h) = pattern_names (head_at types) p h.0 ns h.2
+context_names types p ns (inr h) = pattern_names (running types) p h.0 ns h.2
 
-module _ (types : List Slot) (lawful : IsLawful (head_at types)) (answers : AnswerTypes) (kinds : List TypeId) where
+module _ (types : List Slot) (lawful : IsLawful (running types).head) (answers : AnswerTypes) (kinds : List TypeId) where
   pub roles_count : (c : Around) (roles : List Role) (fns : Functions) → RolesTyped types answers kinds c roles fns → length roles ≡ count fns
   roles_count c [] NoFunction h = refl
   roles_count c [] (AFunction how n ps body fns) h = absurd h
@@ -26,7 +27,7 @@ module _ (types : List Slot) (lawful : IsLawful (head_at types)) (answers : Answ
   roles_count c (role ∷ roles) (AFunction how n ps body fns) h = ap suc (roles_count c roles fns h.1)
 
   -- the functions of a group, in the place of names that stand for nothing that is used
-  pub covers_unused : (group fns : Functions) (n k : ℕ) → k ≡ count fns → Covers (head_at types) answers lawful kinds (functions group fns n) (copies k Anything) []
+  pub covers_unused : (group fns : Functions) (n k : ℕ) → k ≡ count fns → Covers (running types) answers lawful kinds (functions group fns n) (copies k Anything) []
   covers_unused group NoFunction n zero e = refl
   covers_unused group NoFunction n (suc k) e = absurd (omega (arith, e))
   covers_unused group (AFunction how m ps body fns) n zero e = absurd (omega (arith, e))
@@ -35,18 +36,18 @@ module _ (types : List Slot) (lawful : IsLawful (head_at types)) (answers : Answ
   -- ---- values in the place of outer names
 
   abbrev C : Slots → List (Want TypeId) → List (Want TypeId) → Type 0
-  C = Covers (head_at types) answers lawful kinds
+  C = Covers (running types) answers lawful kinds
 
   knows_calling : KnowsMore answers (calling answers)
   knows_calling = (λ n t e. e, λ e. refl)
 
-  covers_calling : (s : Slots) (ws us : List (Want TypeId)) → C s ws us → Covers (head_at types) (calling answers) lawful kinds s ws us
+  covers_calling : (s : Slots) (ws us : List (Want TypeId)) → C s ws us → Covers (running types) (calling answers) lawful kinds s ws us
   covers_calling [] [] us h = h
   covers_calling [] (w ∷ ws) us h = absurd h
   covers_calling (o ∷ s) [] us h = absurd h
   covers_calling (None ∷ s) (w ∷ ws) [] h = absurd h
   covers_calling (None ∷ s) (w ∷ ws) (u ∷ us) h = (h.0, covers_calling s ws us h.1)
-  covers_calling (Some v ∷ s) (w ∷ ws) us h = (h.0, has_grow (head_at types) answers (calling answers) knows_calling kinds kinds (longer_self kinds) v w h.1, covers_calling s ws [] h.2)
+  covers_calling (Some v ∷ s) (w ∷ ws) us h = (h.0, name_grow (running types) answers (calling answers) knows_calling kinds kinds (longer_self kinds) w v h.1, covers_calling s ws [] h.2)
 
   role_put : (role : Role) (ps : Pats) (body : Exp) (s : Slots) (ws us : List (Want TypeId)) (ls : List TypeId) → C s ws us → PlaysRole types answers kinds (record { names = ws; labels = ls }) role ps body
       → PlaysRole types answers kinds (record { names = us; labels = ls }) role ps (put (hide (names_all ps) s) body)
@@ -57,17 +58,17 @@ module _ (types : List Slot) (lawful : IsLawful (head_at types)) (answers : Answ
     h.3,
     h.4,
     h.5,
-    put_typed (head_at types) (calling answers) lawful kinds body (hide (names_all (APat p qs)) s) ((h.0 ++ h.1) ++ map in_function ws) ((h.0 ++ h.1) ++ map in_function us) (h.2 ∷ []) (Of h.2)
-        (covers_hide (head_at types) (calling answers) lawful kinds (h.0 ++ h.1) (names_all (APat p qs)) s (map in_function ws) (map in_function us)
-        (length-append h.0 h.1 ∙ ap₂ (λ m n. m + n) (context_names types p h.0 h.3) (patterns_names (head_at types) qs ts h.1 h.4))
-        (covers_function (head_at types) (calling answers) lawful kinds s ws us (covers_calling s ws us c))) h.6,
+    put_typed (running types) (calling answers) lawful kinds body (hide (names_all (APat p qs)) s) ((h.0 ++ h.1) ++ map in_function ws) ((h.0 ++ h.1) ++ map in_function us) (h.2 ∷ []) (Of h.2)
+        (covers_hide (running types) (calling answers) lawful kinds (h.0 ++ h.1) (names_all (APat p qs)) s (map in_function ws) (map in_function us)
+        (length-append h.0 h.1 ∙ ap₂ (λ m n. m + n) (context_names types p h.0 h.3) (patterns_names (running types) qs ts h.1 h.4))
+        (covers_function (running types) (calling answers) lawful kinds s ws us (covers_calling s ws us c))) h.6,
   )
   role_put (AMethod ts rs) NoPat body s ws us ls c h = absurd h
   role_put AHook NoPat body s ws us ls c h = (
     h.0,
     h.1,
-    put_typed (head_at types) (still answers) lawful kinds body (hide (names_all NoPat) s) (map in_function ws) (map in_function us) (h.0 ∷ []) (Of h.0)
-        (covers_function (head_at types) (still answers) lawful kinds s ws us (covers_still (head_at types) s ws us answers lawful kinds c)) h.2,
+    put_typed (running types) (still answers) lawful kinds body (hide (names_all NoPat) s) (map in_function ws) (map in_function us) (h.0 ∷ []) (Of h.0)
+        (covers_function (running types) (still answers) lawful kinds s ws us (covers_still (running types) s ws us answers lawful kinds c)) h.2,
   )
   role_put AHook (APat p qs) body s ws us ls c h = absurd h
 
@@ -95,9 +96,9 @@ module _ (types : List Slot) (lawful : IsLawful (head_at types)) (answers : Answ
 
 module _ (types : List Slot) (answers more : AnswerTypes) (knows : KnowsMore answers more) (kinds longer : List TypeId) (l : IsLonger kinds longer) where
   role_grow : (role : Role) (ps : Pats) (body : Exp) (c : Around) → PlaysRole types answers kinds c role ps body → PlaysRole types more longer c role ps body
-  role_grow (AMethod ts rs) (APat p qs) body c h = (h.0, h.1, h.2, h.3, h.4, h.5, typed_grow (head_at types) (calling answers) (calling more) (λ n t e. knows.0 n t e, λ e. refl) kinds longer l (in_body (h.0 ++ h.1) h.2 c) body (Of h.2) h.6)
+  role_grow (AMethod ts rs) (APat p qs) body c h = (h.0, h.1, h.2, h.3, h.4, h.5, typed_grow (running types) (calling answers) (calling more) (λ n t e. knows.0 n t e, λ e. refl) kinds longer l (in_body (h.0 ++ h.1) h.2 c) body (Of h.2) h.6)
   role_grow (AMethod ts rs) NoPat body c h = absurd h
-  role_grow AHook NoPat body c h = (h.0, h.1, typed_grow (head_at types) (still answers) (still more) (still_more answers more knows) kinds longer l (in_body [] h.0 c) body (Of h.0) h.2)
+  role_grow AHook NoPat body c h = (h.0, h.1, typed_grow (running types) (still answers) (still more) (still_more answers more knows) kinds longer l (in_body [] h.0 c) body (Of h.0) h.2)
   role_grow AHook (APat p qs) body c h = absurd h
 
   pub roles_grow : (roles : List Role) (fns : Functions) (c : Around) → RolesTyped types answers kinds c roles fns → RolesTyped types more longer c roles fns

@@ -26,7 +26,6 @@ use Rattle.mo_soundness.proofs.Cells.{store_at}
 use Rattle.mo_soundness.proofs.Found.{unit_fits}
 use Rattle.mo_soundness.proofs.Less.{has_sub}
 use Rattle.mo_soundness.proofs.Put.{has_still}
-use Rattle.program_soundness.specs.Agreement.{MessagesAreShareable}
 use Rattle.program_soundness.specs.Bodies.{FieldsTyped}
 use Rattle.program_soundness.specs.Exports.{HookTyped, CellsTyped}
 use Rattle.program_soundness.specs.Results.{GivesResults, AreResults}
@@ -36,31 +35,34 @@ use Rattle.program_soundness.proofs.Exported.{cells_grow}
 use Rattle.program_soundness.proofs.Messages.{goes_out}
 use Rattle.program_soundness.proofs.Turns.{begun_ends, run_ends, turns_fit}
 use Rattle.program_soundness.proofs.Typed.{results_kept}
+use Rattle.program_soundness.specs.Worlds.{running, kept_type}
+use Rattle.program_soundness.proofs.Carried.{kept_out}
+use Rattle.typed_tree.specs.Types.{AreLawful}
 
 -- ---- the hook
 
-module _ (coding : Coding) (types : Types) (p : Program) (lawful : IsLawful (head_at types)) (shared : MessagesAreShareable (head_at types)) (own : Bytes) (answers : AnswerTypes) (kinds : List TypeId) (fields : Fields) (typed : FieldsTyped types p answers kinds fields) where
+module _ (coding : Coding) (types : Types) (p : Program) (lawful : IsLawful (running types).head) (shared : AreLawful types) (own : Bytes) (answers : AnswerTypes) (kinds : List TypeId) (fields : Fields) (typed : FieldsTyped types p answers kinds fields) where
   abbrev s : Surroundings
   s = alone coding types own
 
   abbrev Ends : Run → Type 0
-  Ends run = EndsFit s (GivesResults (head_at types) []) (AreResults (head_at types) []) (still answers) kinds run
+  Ends run = EndsFit s (GivesResults (running types) []) (AreResults (running types) []) (still answers) kinds run
 
-  store_still : (vs : List Value) (ts : List TypeId) → StoreTyped (head_at types) answers kinds vs ts → StoreTyped (head_at types) (still answers) kinds vs ts
+  store_still : (vs : List Value) (ts : List TypeId) → StoreTyped (running types) answers kinds vs ts → StoreTyped (running types) (still answers) kinds vs ts
   store_still [] [] h = tt
   store_still [] (t ∷ ts) h = absurd h
   store_still (v ∷ vs) [] h = absurd h
-  store_still (v ∷ vs) (t ∷ ts) h = (has_still (head_at types) answers kinds v (Of t) h.0, store_still vs ts h.1)
+  store_still (v ∷ vs) (t ∷ ts) h = (has_still (running types) answers kinds v (Of t) h.0, store_still vs ts h.1)
 
   hook_ends : (x : Value) (n : ℕ) → HookTyped types answers kinds x → Ends (turns s n (beginning 0 fields.cells (hook (option_value x))))
   hook_ends x n (inl q) =
       subst (λ x. Ends (turns s n (beginning 0 fields.cells (hook (option_value x))))) (sym q)
-      (run_ends s lawful shared (GivesResults (head_at types) []) (AreResults (head_at types) []) (results_kept (head_at types) [] lawful) (turns s n (beginning 0 fields.cells (Val unit))) (still answers) kinds
-      (turns_fit s lawful shared (GivesResults (head_at types) []) (AreResults (head_at types) []) (results_kept (head_at types) [] lawful) n (beginning 0 fields.cells (Val unit)) (still answers) kinds
-      ((store_still fields.cells kinds typed.cells, λ e. absurd (true≢false (sym e)), λ e. refl), (lawful.unit, lawful.is_unit, unit_fits (head_at types) (still answers) kinds lawful.unit lawful.is_unit))))
+      (run_ends s lawful shared (GivesResults (running types) []) (AreResults (running types) []) (results_kept (running types) [] lawful) (turns s n (beginning 0 fields.cells (Val unit))) (still answers) kinds
+      (turns_fit s lawful shared (GivesResults (running types) []) (AreResults (running types) []) (results_kept (running types) [] lawful) n (beginning 0 fields.cells (Val unit)) (still answers) kinds
+      ((store_still fields.cells kinds typed.cells, λ e. absurd (true≢false (sym e)), λ e. refl), (lawful.unit, lawful.is_unit, unit_fits (running types) (still answers) kinds lawful.unit lawful.is_unit))))
   hook_ends x n (inr h) =
       subst (λ x. Ends (turns s n (beginning 0 fields.cells (hook (option_value x))))) (sym h.1)
-      (begun_ends s lawful shared (GivesResults (head_at types) []) (AreResults (head_at types) []) (results_kept (head_at types) [] lawful) n (beginning 0 fields.cells (hook (Some h.0))) (still answers) kinds
+      (begun_ends s lawful shared (GivesResults (running types) []) (AreResults (running types) []) (results_kept (running types) [] lawful) n (beginning 0 fields.cells (hook (Some h.0))) (still answers) kinds
       (store_still fields.cells kinds typed.cells, λ e. absurd (true≢false (sym e)), λ e. refl) tt
       (hook_called_begins types lawful (still answers) kinds None fields.cells h.0 (store_still fields.cells kinds typed.cells) h.2))
 
@@ -72,34 +74,34 @@ module _ (coding : Coding) (types : Types) (p : Program) (lawful : IsLawful (hea
   cells_still [] NoValue h = tt
   cells_still [] (AValue c cells) h = absurd h
   cells_still (v ∷ vs) NoValue h = absurd h
-  cells_still (v ∷ vs) (AValue c cells) h = (has_still (head_at types) answers kinds c (CellOf v.of_type) h.0, cells_still vs cells h.1)
+  cells_still (v ∷ vs) (AValue c cells) h = (has_still (running types) answers kinds c (CellOf (kept_type types v.of_type)) h.0, cells_still vs cells h.1)
 
 -- ---- the stable variables
 
-module _ (types : Types) (lawful : IsLawful (head_at types)) (answers : AnswerTypes) (kinds : List TypeId) where
+module _ (types : Types) (lawful : IsLawful (running types).head) (graph : AreLawful types) (answers : AnswerTypes) (kinds : List TypeId) where
   -- what the cells of these variables hold
   abbrev HoldsEach : List StableVariable → List Value → Type 0
   HoldsEach [] [] = Unit {0}
-  HoldsEach (v ∷ vs) (x ∷ xs) = HasValue (head_at types) answers kinds (Of v.of_type) x × HoldsEach vs xs
+  HoldsEach (v ∷ vs) (x ∷ xs) = HasValue (running types) answers kinds (Of (kept_type types v.of_type)) x × HoldsEach vs xs
   HoldsEach _ _ = ⊥
 
   -- a cell of this type holds a value of it
-  held_there : (store : Store) (t : TypeId) (c : Value) → StoreTyped (head_at types) answers kinds store kinds → HasValue (head_at types) answers kinds (CellOf t) c
-      → (x : Value) × (held store (cell_of c) ≡ Some x) × HasValue (head_at types) answers kinds (Of t) x
+  held_there : (store : Store) (t : TypeId) (c : Value) → StoreTyped (running types) answers kinds store kinds → HasValue (running types) answers kinds (CellOf t) c
+      → (x : Value) × (held store (cell_of c) ≡ Some x) × HasValue (running types) answers kinds (Of t) x
   held_there store t (Made (Cell at) NoValue) st h =
-      let r = store_at (head_at types) lawful answers kinds store kinds at (λ u. Equal (head_at types) t u) st h in
-      (r.v, r.is, has_sub (head_at types) lawful answers kinds r.v (Of r.kind) (Of t) r.has r.holds.1)
+      let r = store_at (running types) lawful answers kinds store kinds at (λ u. Equal (running types).head t u) st h in
+      (r.v, r.is, has_sub (running types) lawful answers kinds r.v (Of r.kind) (Of t) r.has r.holds.1)
   held_there store t (Made (Cell at) (AValue v vs)) st h = absurd h
   held_there store t (Made k inner) st h = absurd h
   held_there store t (Function group which) st h = absurd h
   held_there store t (BuiltIn m holds) st h = absurd h
 
-  held_each : (store : Store) (vs : List StableVariable) (cells : Values) → StoreTyped (head_at types) answers kinds store kinds → CellsTyped types answers kinds vs cells → HoldsEach vs (held_in store (value_list cells))
+  held_each : (store : Store) (vs : List StableVariable) (cells : Values) → StoreTyped (running types) answers kinds store kinds → CellsTyped types answers kinds vs cells → HoldsEach vs (held_in store (value_list cells))
   held_each store [] NoValue st h = tt
   held_each store [] (AValue c cells) st h = absurd h
   held_each store (v ∷ vs) NoValue st h = absurd h
   held_each store (v ∷ vs) (AValue c cells) st h =
-      let r = held_there store v.of_type c st h.0 in
+      let r = held_there store (kept_type types v.of_type) c st h.0 in
       subst (λ o. HoldsEach (v ∷ vs) (and_held o (held_in store (value_list cells)))) (sym r.1) (r.2, held_each store vs cells st h.1)
 
   variables_there : (vs : List StableVariable) (xs : List Value) → Each (λ (v : StableVariable). IsShareable (head_at types) v.of_type) vs → HoldsEach vs xs
@@ -107,17 +109,17 @@ module _ (types : Types) (lawful : IsLawful (head_at types)) (answers : AnswerTy
   variables_there [] xs s h = ([], refl)
   variables_there (v ∷ vs) [] s h = absurd h
   variables_there (v ∷ vs) (x ∷ xs) s h =
-      let m = goes_out (head_at types) answers kinds (v.of_type ∷ []) (x ∷ []) (s.0, tt) (h.0, tt) in
+      let m = goes_out (head_at types) answers kinds (v.of_type ∷ []) (x ∷ []) (s.0, tt) (kept_out types graph answers kinds v.of_type x s.0 h.0, tt) in
       let rest = variables_there vs xs s.1 h.1 in
       (record { name = v.name; type = v.of_type; value = joined m.0 } ∷ rest.0, ap₂ (λ o r. and_variable v (joined_values o) r) m.1 rest.1)
 
 -- ---- what is kept
 
-module _ (coding : Coding) (types : Types) (p : Program) (lawful : IsLawful (head_at types)) (shared : MessagesAreShareable (head_at types)) (shares : Each (λ (v : StableVariable). IsShareable (head_at types) v.of_type) p.stable) (own : Bytes) (answers : AnswerTypes) (kinds : List TypeId) (fields : Fields) (typed : FieldsTyped types p answers kinds fields) where
+module _ (coding : Coding) (types : Types) (p : Program) (lawful : IsLawful (running types).head) (shared : AreLawful types) (shares : Each (λ (v : StableVariable). IsShareable (head_at types) v.of_type) p.stable) (own : Bytes) (answers : AnswerTypes) (kinds : List TypeId) (fields : Fields) (typed : FieldsTyped types p answers kinds fields) where
   kept_there : (c : Configuration) (v : Value) → Ends coding types p lawful shared own answers kinds fields typed (Ended c (Returns v)) → IsSomething (kept_progress coding types p fields.exports (Ended c (Returns v))).completion
   kept_there c v e =
       let cells = cells_grow types (still answers) e.0 e.2.0 kinds e.1 e.3 p.stable typed.exports.cells (cells_still coding types p lawful shared own answers kinds fields typed p.stable typed.exports.cells typed.exports.stable) in
-      let there = variables_there types lawful e.0 e.1 p.stable (held_in c.store (value_list typed.exports.cells)) shares (held_each types lawful e.0 e.1 c.store p.stable typed.exports.cells e.4.0.0 cells) in
+      let there = variables_there types lawful shared e.0 e.1 p.stable (held_in c.store (value_list typed.exports.cells)) shares (held_each types lawful shared e.0 e.1 c.store p.stable typed.exports.cells e.4.0.0 cells) in
       subst (λ x. IsSomething (kept_progress coding types p x (Ended c (Returns v))).completion) (sym typed.exports.is)
       (subst (λ o. IsSomething (saved_progress coding types p (held_in c.store (value_list typed.exports.cells)) c o).completion) (sym there.1) tt)
 

@@ -43,11 +43,12 @@ use Rattle.program_soundness.proofs.Collected.{collected, listed_shapes}
 use Rattle.program_soundness.proofs.Declared.{declared_put, declared_grow}
 use Rattle.program_soundness.proofs.Exported.{exports_grow}
 use Rattle.program_soundness.proofs.Typed.{typed_kept}
+use Rattle.program_soundness.specs.Worlds.{running}
 
 -- ---- what is kept inside a construct
 
 pub inside_fits : (types : List Slot) (P R : Fitting Exp) (answers : AnswerTypes) (kinds : List TypeId) (f : Exp → Exp) → ((longer : List TypeId) (e : Exp) → IsLonger kinds longer → P answers longer e → R answers longer (f e))
-    → (a : Act) → KeepsFit (head_at types) P answers kinds a → KeepsFit (head_at types) R answers kinds (inside f a)
+    → (a : Act) → KeepsFit (running types) P answers kinds a → KeepsFit (running types) R answers kinds (inside f a)
 inside_fits types P R answers kinds f g (Goes cost store e) h = (h.0, h.1, h.2, g h.0 e h.1 h.3)
 inside_fits types P R answers kinds f g (Prints cost text e) h = (h.0, g kinds e (longer_self kinds) h.1)
 inside_fits types P R answers kinds f g (Asks r) h = h
@@ -58,7 +59,7 @@ inside_fits types P R answers kinds f g (Traps cost text) h = h
 inside_fits types P R answers kinds f g Stuck h = absurd h
 
 pub frame_fits : (types : List Slot) (P R : Fitting Exp) (answers : AnswerTypes) (kinds : List TypeId) (store : Store) (n : ℕ) → ((longer : List TypeId) (e : Exp) → IsLonger kinds longer → P answers longer e → R answers longer (Frame n e))
-    → (a : Act) → KeepsFit (head_at types) P answers kinds a → KeepsFit (head_at types) R answers kinds (at_frame store n a)
+    → (a : Act) → KeepsFit (running types) P answers kinds a → KeepsFit (running types) R answers kinds (at_frame store n a)
 frame_fits types P R answers kinds store n g (Goes cost after e) h = (h.0, h.1, h.2, g h.0 e h.1 h.3)
 frame_fits types P R answers kinds store n g (Prints cost text e) h = (h.0, g kinds e (longer_self kinds) h.1)
 frame_fits types P R answers kinds store n g (Asks r) h = h
@@ -117,11 +118,11 @@ module _ (head : TypeId → Node TypeId) (given : Option Given) (store : Store) 
 
 -- ---- declarations and what they end in
 
-module _ (p : Program) (lawful : IsLawful (head_at p.types)) where
+module _ (p : Program) (lawful : IsLawful (running p.types).head) where
   abbrev X : Fitting Exp
   X = IsExporting p.types p
 
-  module _ (answers : AnswerTypes) (kinds : List TypeId) (given : Option Given) (store : Store) (st : StoreTyped (head_at p.types) answers kinds store kinds) where
+  module _ (answers : AnswerTypes) (kinds : List TypeId) (given : Option Given) (store : Store) (st : StoreTyped (running p.types) answers kinds store kinds) where
     abbrev asked : Exp → Act
     asked e = reduce (head_at p.types) None store e
 
@@ -129,10 +130,10 @@ module _ (p : Program) (lawful : IsLawful (head_at p.types)) where
     reduced e = reduce (head_at p.types) given store e
 
     abbrev S : Act → Type 0
-    S a = Suits (head_at p.types) answers kinds given a
+    S a = Suits (running p.types) answers kinds given a
 
     abbrev K : Act → Type 0
-    K a = KeepsFit (head_at p.types) X answers kinds a
+    K a = KeepsFit (running p.types) X answers kinds a
 
     abbrev Reduces : Exp → Type 0
     Reduces e = S (asked e) → K (reduced e)
@@ -140,27 +141,27 @@ module _ (p : Program) (lawful : IsLawful (head_at p.types)) where
     goes_to : (cost : Cost) (e : Exp) → X answers kinds e → K (Goes cost store e)
     goes_to cost e h = (kinds, longer_self kinds, st, h)
 
-    matched_fits : (cost : Cost) (weight : ℕ) (ns : List (Want TypeId)) (b : Exp) (o : Option (List (Shape Code))) → Matched (head_at p.types) answers kinds ns o → Declared p.types answers kinds p (with_names ns (closed [])) b
+    matched_fits : (cost : Cost) (weight : ℕ) (ns : List (Want TypeId)) (b : Exp) (o : Option (List (Shape Code))) → Matched (running p.types) answers kinds ns o → Declared p.types answers kinds p (with_names ns (closed [])) b
         → K (on_match o (λ s. Goes cost store (put s b)) (fails_to_match weight))
     matched_fits cost weight ns b None m d = tt
     matched_fits cost weight ns b (Some vs) m d =
-        goes_to cost (put (slots_of vs) b) (inl (declared_put p.types lawful answers kinds p (with_names ns (closed [])) b (slots_of vs) [] (covers_names (head_at p.types) lawful answers kinds ns vs m) d))
+        goes_to cost (put (slots_of vs) b) (inl (declared_put p.types lawful answers kinds p (with_names ns (closed [])) b (slots_of vs) [] (covers_names (running p.types) lawful answers kinds ns vs m) d))
 
-    let_reduces : (e : Exp) (q : Pat) (a : Want TypeId) (ns : List (Want TypeId)) (b : Exp) → Typed (head_at p.types) answers kinds (closed []) e a → BindsAt (head_at p.types) q a ns → Declared p.types answers kinds p (with_names ns (closed [])) b
+    let_reduces : (e : Exp) (q : Pat) (a : Want TypeId) (ns : List (Want TypeId)) (b : Exp) → Typed (running p.types) answers kinds (closed []) e a → BindsAt (running p.types).head q a ns → Declared p.types answers kinds p (with_names ns (closed [])) b
         → Reduces (let_in q e b)
     let_reduces e q a ns b t i d =
-        either (head_at p.types) lawful answers kinds (λ x y. S x → K y) e _ _ _ _
-        (λ v z j. matched_fits (weighing (1 + trying q v)) (1 + trying q v) ns b (matches q (shape_of v)) (met (head_at p.types) answers kinds lawful q a ns v i (subst (λ e. Typed (head_at p.types) answers kinds (closed []) e a) z t)) d)
-        (λ active j. inside_fits p.types (Gives (head_at p.types) a) X answers kinds (λ f. let_in q f b)
+        either (running p.types) lawful answers kinds (λ x y. S x → K y) e _ _ _ _
+        (λ v z j. matched_fits (weighing (1 + trying q v)) (1 + trying q v) ns b (matches q (shape_of v)) (met (running p.types) answers kinds lawful q a ns v i (subst (λ e. Typed (running p.types) answers kinds (closed []) e a) z t)) d)
+        (λ active j. inside_fits p.types (Gives (running p.types) a) X answers kinds (λ f. let_in q f b)
         (λ longer f l k. inl (Before (inl (f, q, a, refl, k, i)) (declared_grow p.types answers answers (knows_self answers) kinds longer l p (with_names ns (closed [])) b d)))
-        (reduced e) ((typed_kept (head_at p.types) a lawful).keeps answers kinds given store e active st t (suits_inside (head_at p.types) lawful answers kinds given (λ f. let_in q f b) (asked e) j)))
+        (reduced e) ((typed_kept (running p.types) a lawful).keeps answers kinds given store e active st t (suits_inside (running p.types) lawful answers kinds given (λ f. let_in q f b) (asked e) j)))
 
-    covers_closed : (fns : Functions) (ns : List (Want TypeId)) → FunctionsTyped (head_at p.types) answers kinds (record { names = ns; labels = [] }) fns ns → Covers (head_at p.types) answers lawful kinds (group_of fns) ns []
-    covers_closed fns ns h = covers_group (head_at p.types) lawful answers kinds fns ns h (record { names = ns; labels = [] }) fns ns 0 h (λ m. ap (slice_get ns) (omega arith))
+    covers_closed : (fns : Functions) (ns : List (Want TypeId)) → FunctionsTyped (running p.types) answers kinds (record { names = ns; labels = [] }) fns ns → Covers (running p.types) answers lawful kinds (group_of fns) ns []
+    covers_closed fns ns h = covers_group (running p.types) lawful answers kinds fns ns h (record { names = ns; labels = [] }) fns ns 0 h (λ m. ap (slice_get ns) (omega arith))
 
-    group_reduces : (fns : Functions) (ns : List (Want TypeId)) (b : Exp) → FunctionsTyped (head_at p.types) answers kinds (with_names ns (closed [])) fns ns → Declared p.types answers kinds p (with_names ns (closed [])) b → Reduces (Group fns b)
+    group_reduces : (fns : Functions) (ns : List (Want TypeId)) (b : Exp) → FunctionsTyped (running p.types) answers kinds (with_names ns (closed [])) fns ns → Declared p.types answers kinds p (with_names ns (closed [])) b → Reduces (Group fns b)
     group_reduces fns ns b f d j =
-        let g = subst (λ ms. FunctionsTyped (head_at p.types) answers kinds (record { names = ms; labels = [] }) fns ns) (append_nil ns) f in
+        let g = subst (λ ms. FunctionsTyped (running p.types) answers kinds (record { names = ms; labels = [] }) fns ns) (append_nil ns) f in
         let e = subst (λ ms. Declared p.types answers kinds p (record { names = ms; labels = [] }) b) (append_nil ns) d in
         goes_to (weighing (1 + group_nodes fns)) (put (group_of fns) b) (inl (declared_put p.types lawful answers kinds p (record { names = ns; labels = [] }) b (group_of fns) [] (covers_closed fns ns g) e))
 
@@ -177,11 +178,11 @@ module _ (p : Program) (lawful : IsLawful (head_at p.types)) where
         let d = subst (λ c. CellsNamed p.types answers kinds (with_names (unused (roles_of p)) c) h.1 p.stable) q h.4 in
         subst Reduces (sym h.2) (ends_reduce h.0 h.1 r d)
     declared_reduces c e q (Before {ns = ns} {b = b} (inl o) h) =
-        let t = subst (λ c. Typed (head_at p.types) answers kinds c o.0 o.2) q o.4 in
+        let t = subst (λ c. Typed (running p.types) answers kinds c o.0 o.2) q o.4 in
         let d = subst (λ c. Declared p.types answers kinds p (with_names ns c) b) q h in
         subst Reduces (sym o.3) (let_reduces o.0 o.1 o.2 ns b t o.5 d)
     declared_reduces c e q (Before {ns = ns} {b = b} (inr o) h) =
-        let f = subst (λ c. FunctionsTyped (head_at p.types) answers kinds (with_names ns c) o.0 ns) q o.2 in
+        let f = subst (λ c. FunctionsTyped (running p.types) answers kinds (with_names ns c) o.0 ns) q o.2 in
         let d = subst (λ c. Declared p.types answers kinds p (with_names ns c) b) q h in
         subst Reduces (sym o.1) (group_reduces o.0 ns b f d)
 
@@ -232,18 +233,18 @@ module _ (p : Program) (lawful : IsLawful (head_at p.types)) where
   installing_value answers kinds v (inl h) = absurd (subst IsNoValue (sym h.2) tt)
   installing_value answers kinds v (inr h) = let same : h.0 ≡ v = cc in subst (ExportsTyped p.types answers kinds (program p)) same h.2
 
-  frame_reduces : (answers : AnswerTypes) (kinds : List TypeId) (given : Option Given) (store : Store) (n : ℕ) (e : Exp) → StoreTyped (head_at p.types) answers kinds store kinds → X answers kinds e
-      → Suits (head_at p.types) answers kinds given (reduce (head_at p.types) None store (Frame n e)) → KeepsFit (head_at p.types) I answers kinds (reduce (head_at p.types) given store (Frame n e))
+  frame_reduces : (answers : AnswerTypes) (kinds : List TypeId) (given : Option Given) (store : Store) (n : ℕ) (e : Exp) → StoreTyped (running p.types) answers kinds store kinds → X answers kinds e
+      → Suits (running p.types) answers kinds given (reduce (head_at p.types) None store (Frame n e)) → KeepsFit (running p.types) I answers kinds (reduce (head_at p.types) given store (Frame n e))
   frame_reduces answers kinds given store n e st h j =
-      either (head_at p.types) lawful answers kinds (λ x y. Suits (head_at p.types) answers kinds given x → KeepsFit (head_at p.types) I answers kinds y) e _ _ _ _
+      either (running p.types) lawful answers kinds (λ x y. Suits (running p.types) answers kinds given x → KeepsFit (running p.types) I answers kinds y) e _ _ _ _
       (λ v q i. (kinds, longer_self kinds, st, inr (v, refl, exported_value answers kinds v (subst (λ e. X answers kinds e) q h))))
       (λ active i. frame_fits p.types X I answers kinds store n (λ longer f l k. inl (n, f, refl, k)) (reduce (head_at p.types) given store e)
-      (exporting_reduces answers kinds given store st e active h (suits_frame (head_at p.types) lawful answers kinds given store n (reduce (head_at p.types) None store e) i))) j
+      (exporting_reduces answers kinds given store st e active h (suits_frame (running p.types) lawful answers kinds given store n (reduce (head_at p.types) None store e) i))) j
 
-  installing_reduces : (answers : AnswerTypes) (kinds : List TypeId) (given : Option Given) (store : Store) (e : Exp) → IsNoValue e → StoreTyped (head_at p.types) answers kinds store kinds → I answers kinds e
-      → Suits (head_at p.types) answers kinds given (reduce (head_at p.types) None store e) → KeepsFit (head_at p.types) I answers kinds (reduce (head_at p.types) given store e)
+  installing_reduces : (answers : AnswerTypes) (kinds : List TypeId) (given : Option Given) (store : Store) (e : Exp) → IsNoValue e → StoreTyped (running p.types) answers kinds store kinds → I answers kinds e
+      → Suits (running p.types) answers kinds given (reduce (head_at p.types) None store e) → KeepsFit (running p.types) I answers kinds (reduce (head_at p.types) given store e)
   installing_reduces answers kinds given store e active st (inl h) =
-      subst (λ e. Suits (head_at p.types) answers kinds given (reduce (head_at p.types) None store e) → KeepsFit (head_at p.types) I answers kinds (reduce (head_at p.types) given store e)) (sym h.2)
+      subst (λ e. Suits (running p.types) answers kinds given (reduce (head_at p.types) None store e) → KeepsFit (running p.types) I answers kinds (reduce (head_at p.types) given store e)) (sym h.2)
       (frame_reduces answers kinds given store h.0 h.1 st h.3)
   installing_reduces answers kinds given store e active st (inr h) = absurd (subst IsNoValue h.1 active)
 
@@ -251,7 +252,7 @@ module _ (p : Program) (lawful : IsLawful (head_at p.types)) where
   installing_grows answers more kinds longer e k l (inl h) = inl (h.0, h.1, h.2, collecting_grows answers more kinds longer h.1 k l h.3)
   installing_grows answers more kinds longer e k l (inr h) = inr (h.0, h.1, exports_grow p.types answers more k kinds longer l (program p) h.0 h.2)
 
-  pub installing_kept : IsKept (head_at p.types) I (AreExports p.types p)
+  pub installing_kept : IsKept (running p.types) I (AreExports p.types p)
   installing_kept = record {
     value = λ answers kinds v h. installing_value answers kinds v h;
     grows = λ answers more kinds longer e k l h. installing_grows answers more kinds longer e k l h;

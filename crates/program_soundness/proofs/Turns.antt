@@ -4,7 +4,6 @@ use Rattle.std.specs.Prelude.{◌&&◌, codes}
 use Rattle.std.specs.Str.{is_utf8, IsAscii}
 use Rattle.std.proofs.lemmas.Str.{IsUtf8-from_ascii, is_utf8-from_IsUtf8}
 use Rattle.std.proofs.lemmas.Str.Ascii.{IsAscii-nil}
-use Rattle.mo_types.specs.declared.node.Node.{Node}
 use Rattle.mo_types.specs.declared.node.TypeId.{TypeId}
 use Rattle.mo_types.specs.Calls.{State, Open, Answered, Lost, CallTable, call_at, next_number}
 use Rattle.mo_types.specs.Graph.{head_at}
@@ -15,7 +14,6 @@ use Rattle.mo_actor.specs.Completions.{open_call}
 use Rattle.mo_actor.specs.Programs.{Replies, Rejects}
 use Rattle.typed_tree.specs.ActionTypes.{ResultOf}
 use Rattle.typed_tree.specs.Language.{Value, Exp, Made, NoValue, Val}
-use Rattle.typed_tree.specs.Shareable.{IsShareable}
 use Rattle.typed_tree.specs.Wants.{Of, Below}
 use Rattle.mo_meaning.specs.Acts.{Store, Request, Given, Gets, Fails, Act, Goes, Prints, Asks, Awaits, Leaves, Throws}
 use Rattle.mo_meaning.specs.Acts as act
@@ -32,11 +30,14 @@ use Rattle.mo_soundness.specs.Running.{AnswerTypes, IsErrorValue}
 use Rattle.mo_soundness.proofs.Answered.{answers as told}
 use Rattle.mo_soundness.proofs.Elsewhere.{waits_there}
 use Rattle.mo_soundness.proofs.More.{longer_self, knows_self, has_grow, store_grow}
-use Rattle.program_soundness.specs.Agreement.{MessagesAreShareable, WaitsOn, GivenFits, StateFits, GivesAnswer, Agrees, awaited_by}
+use Rattle.program_soundness.specs.Agreement.{WaitsOn, GivenFits, StateFits, GivesAnswer, Agrees, awaited_by}
 use Rattle.program_soundness.specs.Results.{AreResults}
 use Rattle.program_soundness.specs.Runs.{ReturnsOrTraps, Fitting, Grows, Further, KeepsFit, Begins, IsKept, table_now, IsTypedState, Stands, EndFits, EndsFit, RunFits}
 use Rattle.program_soundness.proofs.Messages.{first_shareable, last_shareable, result_below, results_unpacked, message_there}
 use Rattle.program_soundness.proofs.Tables.{Entry, in_range, found_before, found_last, state_found}
+use Rattle.program_soundness.specs.Worlds.{running, IsCarried}
+use Rattle.mo_soundness.specs.Worlds.{World}
+use Rattle.typed_tree.specs.Types.{AreLawful}
 
 -- ---- a text of ASCII is UTF-8
 
@@ -79,23 +80,23 @@ further_on answers more kinds longer p k l h = (h.0, h.1, grows_through answers 
 
 -- ---- what is known of calls
 
-module _ (head : TypeId → Node TypeId) where
-  given_grow : (answers more : AnswerTypes) (kinds longer : List TypeId) → KnowsMore answers more → IsLonger kinds longer → (t : TypeId) (g : Given) → GivenFits head answers kinds t g → GivenFits head more longer t g
-  given_grow answers more kinds longer k l t (Gets v) h = has_grow head answers more k kinds longer l v (Of t) h
+module _ (world : World) where
+  given_grow : (answers more : AnswerTypes) (kinds longer : List TypeId) → KnowsMore answers more → IsLonger kinds longer → (t : TypeId) (g : Given) → GivenFits world answers kinds t g → GivenFits world more longer t g
+  given_grow answers more kinds longer k l t (Gets v) h = has_grow world answers more k kinds longer l v (Of t) h
   given_grow answers more kinds longer k l t (Fails e) h = h
 
-  state_grow : (answers more : AnswerTypes) (kinds longer : List TypeId) → KnowsMore answers more → IsLonger kinds longer → (t : TypeId) (s : State Given) → StateFits head answers kinds t s → StateFits head more longer t s
+  state_grow : (answers more : AnswerTypes) (kinds longer : List TypeId) → KnowsMore answers more → IsLonger kinds longer → (t : TypeId) (s : State Given) → StateFits world answers kinds t s → StateFits world more longer t s
   state_grow answers more kinds longer k l t (Answered (Some g)) h = given_grow answers more kinds longer k l t g h
   state_grow answers more kinds longer k l t (Answered None) h = tt
   state_grow answers more kinds longer k l t Open h = tt
   state_grow answers more kinds longer k l t Lost h = tt
 
   pub gives_grow : (answers more : AnswerTypes) (kinds longer : List TypeId) → KnowsMore answers more → IsLonger kinds longer → (table : CallTable (List TypeId) Given) (n : ℕ) (t : TypeId)
-      → GivesAnswer head answers kinds table n t → GivesAnswer head more longer table n t
+      → GivesAnswer world answers kinds table n t → GivesAnswer world more longer table n t
   gives_grow answers more kinds longer k l table n t g =
       record { call = g.call; is = g.is; result = g.result; shareable = g.shareable; own = g.own; state = state_grow answers more kinds longer k l t g.call.state g.state }
 
-  pub agrees_grow : (answers : AnswerTypes) (kinds longer : List TypeId) → IsLonger kinds longer → (table : CallTable (List TypeId) Given) → Agrees head answers kinds table → Agrees head answers longer table
+  pub agrees_grow : (answers : AnswerTypes) (kinds longer : List TypeId) → IsLonger kinds longer → (table : CallTable (List TypeId) Given) → Agrees world answers kinds table → Agrees world answers longer table
   agrees_grow answers kinds longer l table h n t e = gives_grow answers answers kinds longer (knows_self answers) l table n t (h n t e)
 
 -- ---- a call that is added
@@ -135,50 +136,50 @@ module _ (s : Surroundings) where
 
   module _ (answers : AnswerTypes) (kinds : List TypeId) where
     -- an answer that is known is that of an earlier call
-    earlier : (c : Configuration) (n : ℕ) (t : TypeId) → Agrees (head_at s.types) answers kinds (table_now s c) → answers.types n ≡ Some t → n < next_call s c
+    earlier : (c : Configuration) (n : ℕ) (t : TypeId) → Agrees (running s.types) answers kinds (table_now s c) → answers.types n ≡ Some t → n < next_call s c
     earlier c n t a e =
         let g = a n t e in
         let r = in_range s.table.first (s.table.calls ++ map (open_call {L = kernel} 0) c.calls) n g.call g.is in
         omega (arith, r.1, length_now c)
 
-    known_next : (c : Configuration) (u : TypeId) → Agrees (head_at s.types) answers kinds (table_now s c) → (n : ℕ) (t : TypeId) → answers.types n ≡ Some t → (with_answer (next_call s c) u answers).types n ≡ Some t
+    known_next : (c : Configuration) (u : TypeId) → Agrees (running s.types) answers kinds (table_now s c) → (n : ℕ) (t : TypeId) → answers.types n ≡ Some t → (with_answer (next_call s c) u answers).types n ≡ Some t
     known_next c u a n t e = by (nat_eq n (next_call s c)) refl
       where
         by : (b : Bool) → nat_eq n (next_call s c) ≡ b → cond b (Some u) (answers.types n) ≡ Some t
         by true q = absurd (let same : n ≡ next_call s c = eqb-true n (next_call s c) q in let less : n < next_call s c = earlier c n t a e in omega (arith, same, less))
         by false q = e
 
-    knows_next : (c : Configuration) (u : TypeId) → Agrees (head_at s.types) answers kinds (table_now s c) → KnowsMore answers (with_answer (next_call s c) u answers)
+    knows_next : (c : Configuration) (u : TypeId) → Agrees (running s.types) answers kinds (table_now s c) → KnowsMore answers (with_answer (next_call s c) u answers)
     knows_next c u a = (λ n t e. known_next c u a n t e, λ e. e)
 
     -- a call of `__resume` has no future that is waited on
-    agrees_resumed : (c : Configuration) (call : Outgoing) → Agrees (head_at s.types) answers kinds (table_now s c) → Agrees (head_at s.types) answers kinds (table_now s (with_call call c))
+    agrees_resumed : (c : Configuration) (call : Outgoing) → Agrees (running s.types) answers kinds (table_now s c) → Agrees (running s.types) answers kinds (table_now s (with_call call c))
     agrees_resumed c call a n t e =
         let g = a n t e in
         record { call = g.call; is = added_table c call n g.call g.is; result = g.result; shareable = g.shareable; own = g.own; state = g.state }
 
-    agrees_sent : (c : Configuration) (q : Request) (bytes : Bytes) (u : TypeId) → Agrees (head_at s.types) answers kinds (table_now s c) → ResultOf (head_at s.types) q.results u → Each (IsShareable (head_at s.types)) q.results
-        → Agrees (head_at s.types) (with_answer (next_call s c) u answers) kinds (table_now s (with_call (call_of q bytes) c))
+    agrees_sent : (c : Configuration) (q : Request) (bytes : Bytes) (u : TypeId) → Agrees (running s.types) answers kinds (table_now s c) → ResultOf (running s.types).head q.results u → Each (IsCarried s.types) q.results
+        → Agrees (running s.types) (with_answer (next_call s c) u answers) kinds (table_now s (with_call (call_of q bytes) c))
     agrees_sent c q bytes u a r sh n t e = by (nat_eq n (next_call s c)) refl e
       where
-        by : (b : Bool) → nat_eq n (next_call s c) ≡ b → cond b (Some u) (answers.types n) ≡ Some t → GivesAnswer (head_at s.types) (with_answer (next_call s c) u answers) kinds (table_now s (with_call (call_of q bytes) c)) n t
+        by : (b : Bool) → nat_eq n (next_call s c) ≡ b → cond b (Some u) (answers.types n) ≡ Some t → GivesAnswer (running s.types) (with_answer (next_call s c) u answers) kinds (table_now s (with_call (call_of q bytes) c)) n t
         by true p k =
             let same : u ≡ t = cc in
             record {
               call = open_call {L = kernel} 0 (call_of q bytes);
               is = subst (λ (m : ℕ). call_at (table_now s (with_call (call_of q bytes) c)) m ≡ Some (open_call {L = kernel} 0 (call_of q bytes))) (sym (eqb-true n (next_call s c) p)) (added_last c (call_of q bytes));
-              result = subst (ResultOf (head_at s.types) q.results) same r;
+              result = subst (ResultOf (running s.types).head q.results) same r;
               shareable = sh;
               own = refl;
               state = tt;
             }
         by false p k =
-            gives_grow (head_at s.types) answers (with_answer (next_call s c) u answers) kinds kinds (knows_next c u a) (longer_self kinds) (table_now s (with_call (call_of q bytes) c)) n t
+            gives_grow (running s.types) answers (with_answer (next_call s c) u answers) kinds kinds (knows_next c u a) (longer_self kinds) (table_now s (with_call (call_of q bytes) c)) n t
             (agrees_resumed c (call_of q bytes) a n t k)
 
 -- ---- one turn
 
-module _ (s : Surroundings) (lawful : IsLawful (head_at s.types)) (shared : MessagesAreShareable (head_at s.types)) (P : Fitting Exp) (Q : Fitting Value) (kept : IsKept (head_at s.types) P Q) where
+module _ (s : Surroundings) (lawful : IsLawful (running s.types).head) (shared : AreLawful s.types) (P : Fitting Exp) (Q : Fitting Value) (kept : IsKept (running s.types) P Q) where
   abbrev Fits : AnswerTypes → List TypeId → Run → Type 0
   Fits = RunFits s P Q
 
@@ -204,11 +205,11 @@ module _ (s : Surroundings) (lawful : IsLawful (head_at s.types)) (shared : Mess
   asked c = reduce (head_at s.types) None c.store c.at
 
   goes_fit : (c : Configuration) (cost : Cost) (store : Store) (e : Exp) (answers : AnswerTypes) (kinds : List TypeId) → IsTypedState s answers kinds c
-      → KeepsFit (head_at s.types) P answers kinds (Goes cost store e) → Fits answers kinds (Still (moved cost store e c))
+      → KeepsFit (running s.types) P answers kinds (Goes cost store e) → Fits answers kinds (Still (moved cost store e c))
   goes_fit c cost store e answers kinds h k =
-      (answers, k.0, grows_self answers, k.1, ((k.2, λ m. agrees_grow (head_at s.types) answers kinds k.0 k.1 (table_now s c) (h.1 m), h.2), k.3))
+      (answers, k.0, grows_self answers, k.1, ((k.2, λ m. agrees_grow (running s.types) answers kinds k.0 k.1 (table_now s c) (h.1 m), h.2), k.3))
 
-  given_fits : (c : Configuration) (a : Act) (answers : AnswerTypes) (kinds : List TypeId) → IsTypedState s answers kinds c → IsAnswered a → KeepsFit (head_at s.types) P answers kinds a → Fits answers kinds (given_turn s c a)
+  given_fits : (c : Configuration) (a : Act) (answers : AnswerTypes) (kinds : List TypeId) → IsTypedState s answers kinds c → IsAnswered a → KeepsFit (running s.types) P answers kinds a → Fits answers kinds (given_turn s c a)
   given_fits c (Goes cost store e) answers kinds h i k = goes_fit c cost store e answers kinds h k
   given_fits c (Throws cost error) answers kinds h i k = rejects_fit (weighed cost c) error answers kinds h k
   given_fits c (act.Traps cost text) answers kinds h i k = at_once answers kinds (EndFits s P Q (weighed cost c) (Traps text)) tt
@@ -222,7 +223,7 @@ module _ (s : Surroundings) (lawful : IsLawful (head_at s.types)) (shared : Mess
       by e k = tt
 
   -- what asks is given its part
-  pub give_fits : (g : Given) (c : Configuration) (answers : AnswerTypes) (kinds : List TypeId) → St c answers kinds → IsAsking (asked c) → Suits (head_at s.types) answers kinds (Some g) (asked c) → Fits answers kinds (give s g c)
+  pub give_fits : (g : Given) (c : Configuration) (answers : AnswerTypes) (kinds : List TypeId) → St c answers kinds → IsAsking (asked c) → Suits (running s.types) answers kinds (Some g) (asked c) → Fits answers kinds (give s g c)
   give_fits g c answers kinds h i suits =
       given_fits c (reduce (head_at s.types) (Some g) c.store c.at) answers kinds h.0 (told (head_at s.types) g c.store c.at i)
       (kept.keeps answers kinds (Some g) c.store c.at (not_value c i) h.0.0 h.1 suits)
@@ -233,7 +234,7 @@ module _ (s : Surroundings) (lawful : IsLawful (head_at s.types)) (shared : Mess
   spelled : is_utf8 (codes "call refused") ≡ true
   spelled = is_utf8-from_IsUtf8 (codes "call refused") (IsUtf8-from_ascii (codes "call refused") (ascii (codes "call refused") refl))
 
-  refused_suits : (a : Act) (answers : AnswerTypes) (kinds : List TypeId) → Suits (head_at s.types) answers kinds (Some (Fails refused)) a
+  refused_suits : (a : Act) (answers : AnswerTypes) (kinds : List TypeId) → Suits (running s.types) answers kinds (Some (Fails refused)) a
   refused_suits (Asks r) answers kinds = (small, spelled)
   refused_suits (Awaits n c) answers kinds = (small, spelled)
   refused_suits (Goes cost store e) answers kinds = tt
@@ -266,40 +267,39 @@ module _ (s : Surroundings) (lawful : IsLawful (head_at s.types)) (shared : Mess
   next_answered : (c : Configuration) (u : TypeId) (answers : AnswerTypes) → (later c u answers).types (next_call s c) ≡ Some u
   next_answered c u answers = ap (λ b. cond b (Some u) (answers.types (next_call s c))) (eq-eqb (next_call s c) (next_call s c) refl)
 
-  future_suits : (c : Configuration) (q : Request) (u : TypeId) (answers : AnswerTypes) (kinds : List TypeId) → ResultOf (head_at s.types) q.results u → Suits (head_at s.types) (later c u answers) kinds (Some (future c)) (Asks q)
-  future_suits c q u answers kinds h r i = subst (λ o. AtSome o (λ k. Below (head_at s.types) k r)) (sym (next_answered c u answers)) (result_below (head_at s.types) lawful q.results u r h i)
+  future_suits : (c : Configuration) (q : Request) (u : TypeId) (answers : AnswerTypes) (kinds : List TypeId) → ResultOf (running s.types).head q.results u → Suits (running s.types) (later c u answers) kinds (Some (future c)) (Asks q)
+  future_suits c q u answers kinds h r i = subst (λ o. AtSome o (λ k. Below (running s.types).head k r)) (sym (next_answered c u answers)) (result_below (running s.types).head lawful q.results u r h i)
 
-  sent_stands : (q : Request) (bytes : Bytes) (c : Configuration) (u : TypeId) (answers : AnswerTypes) (kinds : List TypeId) → St c answers kinds → answers.may_call ≡ true → ResultOf (head_at s.types) q.results u → Each (IsShareable (head_at s.types)) q.results
+  sent_stands : (q : Request) (bytes : Bytes) (c : Configuration) (u : TypeId) (answers : AnswerTypes) (kinds : List TypeId) → St c answers kinds → answers.may_call ≡ true → ResultOf (running s.types).head q.results u → Each (IsCarried s.types) q.results
       → St (sent q bytes c) (later c u answers) kinds
   sent_stands q bytes c u answers kinds h may r sh =
       let paid = weighed (call_cost q.callee q.method q.arguments bytes) c in
       let knows = knows_next s answers kinds c u (h.0.1 may) in (
-        (store_grow (head_at s.types) answers (later c u answers) knows kinds kinds (longer_self kinds) c.store kinds h.0.0, λ m. agrees_sent s answers kinds paid q bytes u (h.0.1 may) r sh, λ e. absurd (true≢false (sym may ∙ e))),
+        (store_grow (running s.types) answers (later c u answers) knows kinds kinds (longer_self kinds) c.store kinds h.0.0, λ m. agrees_sent s answers kinds paid q bytes u (h.0.1 may) r sh, λ e. absurd (true≢false (sym may ∙ e))),
         kept.grows answers (later c u answers) kinds kinds c.at knows (longer_self kinds) h.1,
       )
 
-  gone_fits : (q : Request) (bytes : Bytes) (c : Configuration) (u : TypeId) (answers : AnswerTypes) (kinds : List TypeId) → St c answers kinds → asked c ≡ Asks q → answers.may_call ≡ true → ResultOf (head_at s.types) q.results u → Each (IsShareable (head_at s.types)) q.results
+  gone_fits : (q : Request) (bytes : Bytes) (c : Configuration) (u : TypeId) (answers : AnswerTypes) (kinds : List TypeId) → St c answers kinds → asked c ≡ Asks q → answers.may_call ≡ true → ResultOf (running s.types).head q.results u → Each (IsCarried s.types) q.results
       → Fits answers kinds (give s (future c) (sent q bytes c))
   gone_fits q bytes c u answers kinds h e may r sh =
       run_later answers (later c u answers) kinds kinds (knows_next s answers kinds c u (h.0.1 may), λ active. absurd (true≢false (sym may ∙ active))) (longer_self kinds) (give s (future c) (sent q bytes c))
       (give_fits (future c) (sent q bytes c) (later c u answers) kinds (sent_stands q bytes c u answers kinds h may r sh) (subst IsAsking (sym e) tt)
-      (subst (λ a. Suits (head_at s.types) (later c u answers) kinds (Some (future c)) a) (sym e) (future_suits c q u answers kinds r)))
+      (subst (λ a. Suits (running s.types) (later c u answers) kinds (Some (future c)) a) (sym e) (future_suits c q u answers kinds r)))
 
-  send_fits : (q : Request) (c : Configuration) (answers : AnswerTypes) (kinds : List TypeId) → St c answers kinds → asked c ≡ Asks q → IsRequest (head_at s.types) answers kinds q → Fits answers kinds (send s q (message s q.parameters q.arguments) c)
+  send_fits : (q : Request) (c : Configuration) (answers : AnswerTypes) (kinds : List TypeId) → St c answers kinds → asked c ≡ Asks q → IsRequest (running s.types) answers kinds q → Fits answers kinds (send s q (message s q.parameters q.arguments) c)
   send_fits q c answers kinds h e i =
-      let sh = shared i.0 i.2 q.parameters q.results i.4 i.3 in
-      let m = message_there s.coding s.types answers kinds q.parameters q.arguments (first_shareable (IsShareable (head_at s.types)) q.parameters q.results sh) i.6 in
+      let m = message_there s.coding s.types shared answers kinds q.parameters q.arguments (first_shareable (IsCarried s.types) q.parameters q.results i.8) i.6 in
       subst (λ o. Fits answers kinds (send s q o c)) (sym m.1)
-      (short_or m.0 (weighed (message_cost q.arguments m.0) c) (give s (future c) (sent q m.0 c)) answers kinds (gone_fits q m.0 c i.1 answers kinds h e i.7 i.5 (last_shareable (IsShareable (head_at s.types)) q.parameters q.results sh)))
+      (short_or m.0 (weighed (message_cost q.arguments m.0) c) (give s (future c) (sent q m.0 c)) answers kinds (gone_fits q m.0 c i.1 answers kinds h e i.7 i.5 (last_shareable (IsCarried s.types) q.parameters q.results i.8)))
 
   -- ---- waits
 
-  waits_on : (c : Configuration) (nodes call : ℕ) → asked c ≡ Awaits nodes call → WaitsOn (head_at s.types) call c.at
+  waits_on : (c : Configuration) (nodes call : ℕ) → asked c ≡ Awaits nodes call → WaitsOn (running s.types) call c.at
   waits_on c nodes call e = (nodes, λ store. waits_there c.store store (head_at s.types) c.at nodes call e)
 
   resumes_fit : (nodes call : ℕ) (c : Configuration) (answers : AnswerTypes) (kinds : List TypeId) → answers.may_call ≡ true → St c answers kinds → asked c ≡ Awaits nodes call → Fits answers kinds (resumes s nodes call (message s [] []) c)
   resumes_fit nodes call c answers kinds may h e =
-      let m = message_there s.coding s.types answers kinds [] [] tt tt in
+      let m = message_there s.coding s.types shared answers kinds [] [] tt tt in
       subst (λ o. Fits answers kinds (resumes s nodes call o c)) (sym m.1)
       (at_once answers kinds (EndFits s P Q (with_call (resume_call s call m.0) (weighed (weighing (1 + nodes + (call_cost s.own resume_name [] m.0).weight)) c)) (Suspends (next_call s c) nodes)) (
         ((h.0.0, λ y. agrees_resumed s answers kinds (weighed (weighing (1 + nodes + (call_cost s.own resume_name [] m.0).weight)) c) (resume_call s call m.0) (h.0.1 y), λ y. absurd (true≢false (sym may ∙ y))), h.1),
@@ -315,8 +315,8 @@ module _ (s : Surroundings) (lawful : IsLawful (head_at s.types)) (shared : Mess
       asks : IsAsking (asked c)
       asks = subst IsAsking (sym e) tt
 
-      by : GivesAnswer (head_at s.types) answers kinds (table_now s c) call t → (state : State Given) → Fits answers kinds (awaits s nodes call (Some state) c)
-      by g Open = at_once answers kinds (EndFits s P Q (weighed (weighing (1 + nodes)) c) (Suspends call nodes)) (h, (g.call, g.is, subst (λ o. WaitsOn (head_at s.types) (awaited_by call o) c.at) (sym g.own) (waits_on c nodes call e)), may)
+      by : GivesAnswer (running s.types) answers kinds (table_now s c) call t → (state : State Given) → Fits answers kinds (awaits s nodes call (Some state) c)
+      by g Open = at_once answers kinds (EndFits s P Q (weighed (weighing (1 + nodes)) c) (Suspends call nodes)) (h, (g.call, g.is, subst (λ o. WaitsOn (running s.types) (awaited_by call o) c.at) (sym g.own) (waits_on c nodes call e)), may)
       by g (Answered v) = room_or c (resumes s nodes call (message s [] []) c) answers kinds h asks (resumes_fit nodes call c answers kinds may h e)
       by g Lost = at_once answers kinds (EndFits s P Q (weighed (weighing (1 + nodes)) c) Sleeps) (h.0, may)
 
@@ -326,7 +326,7 @@ module _ (s : Surroundings) (lawful : IsLawful (head_at s.types)) (shared : Mess
   some_answer None h = absurd h
   some_answer (Some t) h = (t, refl)
 
-  turn_fits : (c : Configuration) (a : Act) (answers : AnswerTypes) (kinds : List TypeId) → St c answers kinds → asked c ≡ a → KeepsFit (head_at s.types) P answers kinds a → Fits answers kinds (turn s c a)
+  turn_fits : (c : Configuration) (a : Act) (answers : AnswerTypes) (kinds : List TypeId) → St c answers kinds → asked c ≡ a → KeepsFit (running s.types) P answers kinds a → Fits answers kinds (turn s c a)
   turn_fits c (Goes cost store e) answers kinds h q k = goes_fit c cost store e answers kinds h.0 k
   turn_fits c (Prints cost text e) answers kinds h q k = at_once answers kinds (St (record (moved cost c.store e c) { prints = c.prints ++ text ∷ [] })) (h.0, k.1)
   turn_fits c (Asks r) answers kinds h q k = room_or c (send s r (message s r.parameters r.arguments) c) answers kinds h (subst IsAsking (sym q) tt) (send_fits r c answers kinds h q k)
@@ -353,7 +353,7 @@ module _ (s : Surroundings) (lawful : IsLawful (head_at s.types)) (shared : Mess
       (λ active. turn_fits c (asked c) answers kinds h refl (kept.keeps answers kinds None c.store c.at active h.0.0 h.1 tt)))
 
   -- where the first reduction is given what it waits for
-  pub turns_given_fit : (g : Given) (n : ℕ) (c : Configuration) (answers : AnswerTypes) (kinds : List TypeId) → St c answers kinds → IsAsking (asked c) → Suits (head_at s.types) answers kinds (Some g) (asked c) → Fits answers kinds (turns_given s g n c)
+  pub turns_given_fit : (g : Given) (n : ℕ) (c : Configuration) (answers : AnswerTypes) (kinds : List TypeId) → St c answers kinds → IsAsking (asked c) → Suits (running s.types) answers kinds (Some g) (asked c) → Fits answers kinds (turns_given s g n c)
   turns_given_fit g zero c answers kinds h i k = at_once answers kinds (St c) h
   turns_given_fit g (suc n) c answers kinds h i k = then_fits n (turns_fit n) (give s g c) answers kinds (give_fits g c answers kinds h i k)
 
@@ -364,14 +364,14 @@ module _ (s : Surroundings) (lawful : IsLawful (head_at s.types)) (shared : Mess
   run_ends (Ended c end) answers kinds h = h
 
   -- the first reduction is one that is no value and does not ask
-  pub begun_ends : (n : ℕ) (c : Configuration) (answers : AnswerTypes) (kinds : List TypeId) → IsTypedState s answers kinds c → IsNoValue c.at → Begins (head_at s.types) P answers kinds (asked c) → EndsFit s P Q answers kinds (turns s n c)
+  pub begun_ends : (n : ℕ) (c : Configuration) (answers : AnswerTypes) (kinds : List TypeId) → IsTypedState s answers kinds c → IsNoValue c.at → Begins (running s.types) P answers kinds (asked c) → EndsFit s P Q answers kinds (turns s n c)
   begun_ends zero c answers kinds h active b = tt
   begun_ends (suc n) c answers kinds h active b =
       run_ends (turns s (suc n) c) answers kinds
       (then_fits n (turns_fit n) (value_or c.at (λ v. Ended c (Returns v)) (turn s c (asked c))) answers kinds
       (by_value (Fits answers kinds) c.at (λ v. Ended c (Returns v)) (turn s c (asked c)) (λ v q. absurd (subst IsNoValue q active)) (λ k. by (asked c) b)))
     where
-      by : (a : Act) → Begins (head_at s.types) P answers kinds a → Fits answers kinds (turn s c a)
+      by : (a : Act) → Begins (running s.types) P answers kinds a → Fits answers kinds (turn s c a)
       by (Goes cost store e) k = goes_fit c cost store e answers kinds h k
       by (act.Traps cost text) k = at_once answers kinds (EndFits s P Q (weighed cost c) (Traps text)) tt
       by (Prints cost text e) k = absurd k
@@ -383,9 +383,9 @@ module _ (s : Surroundings) (lawful : IsLawful (head_at s.types)) (shared : Mess
 
 -- ---- the value of a shared body is its reply
 
-module _ (s : Surroundings) (P : Fitting Exp) (results : List TypeId) (sh : Each (IsShareable (head_at s.types)) results) where
+module _ (s : Surroundings) (shared : AreLawful s.types) (P : Fitting Exp) (results : List TypeId) (sh : Each (IsCarried s.types) results) where
   abbrev Rs : Fitting Value
-  Rs = AreResults (head_at s.types) results
+  Rs = AreResults (running s.types) results
 
   reply_short : (bytes : Bytes) (c : Configuration) (run : Run) (answers : AnswerTypes) (kinds : List TypeId) → EndsFit s P Rs answers kinds run → EndsFit s P Rs answers kinds (if_short bytes c run)
   reply_short bytes c run answers kinds h = by (nat_lt most_bytes (length bytes))
@@ -396,7 +396,7 @@ module _ (s : Surroundings) (P : Fitting Exp) (results : List TypeId) (sh : Each
 
   returns_fit : (c : Configuration) (v : Value) (answers : AnswerTypes) (kinds : List TypeId) → answers.may_call ≡ true → EndFits s P Rs c (Returns v) answers kinds → EndsFit s P Rs answers kinds (as_reply s results (Ended c (Returns v)))
   returns_fit c v answers kinds may h =
-      let m = message_there s.coding s.types answers kinds results (unpacked results v) sh (results_unpacked (head_at s.types) answers kinds results h.1.0 v h.1.1 h.1.2) in
+      let m = message_there s.coding s.types shared answers kinds results (unpacked results v) sh (results_unpacked (running s.types) answers kinds results h.1.0 v h.1.1 h.1.2) in
       subst (λ o. EndsFit s P Rs answers kinds (replies s (unpacked results v) o c)) (sym m.1) (reply_short m.0 (weighed (message_cost (unpacked results v) m.0) c) (Ended (weighed (message_cost (unpacked results v) m.0) c) (Responds (Replies m.0))) answers kinds
       (at_once answers kinds (EndFits s P Rs (weighed (message_cost (unpacked results v) m.0) c) (Responds (Replies m.0))) (h.0, may)))
 

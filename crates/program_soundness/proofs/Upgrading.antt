@@ -29,8 +29,9 @@ use Rattle.program_soundness.proofs.Exported.{exports_grow, hook_grow}
 use Rattle.program_soundness.proofs.Roles.{function_grow}
 use Rattle.program_soundness.proofs.Starts.{inside_fits, operation_reduces, installing_kept}
 use Rattle.program_soundness.proofs.Typed.{results_kept}
+use Rattle.program_soundness.specs.Worlds.{running}
 
-begins_fit : (types : List Slot) (P : Fitting Exp) (answers : AnswerTypes) (kinds : List TypeId) (a : Act) → Begins (head_at types) P answers kinds a → KeepsFit (head_at types) P answers kinds a
+begins_fit : (types : List Slot) (P : Fitting Exp) (answers : AnswerTypes) (kinds : List TypeId) (a : Act) → Begins (running types) P answers kinds a → KeepsFit (running types) P answers kinds a
 begins_fit types P answers kinds (Goes cost store e) h = h
 begins_fit types P answers kinds (Traps cost text) h = tt
 begins_fit types P answers kinds (Prints cost text e) h = absurd h
@@ -40,14 +41,14 @@ begins_fit types P answers kinds (Leaves l v) h = absurd h
 begins_fit types P answers kinds (Throws cost v) h = absurd h
 begins_fit types P answers kinds Stuck h = absurd h
 
-module _ (p : Program) (lawful : IsLawful (head_at p.types)) where
+module _ (p : Program) (lawful : IsLawful (running p.types).head) where
   abbrev U : Fitting Exp
   U answers kinds e = IsUpgrading p.types p answers kinds e
 
   abbrev Xs : AnswerTypes → List TypeId → Value → Type 0
   Xs answers kinds v = ExportsTyped p.types answers kinds (program p) v
 
-  module _ (answers : AnswerTypes) (kinds : List TypeId) (given : Option Given) (store : Store) (st : StoreTyped (head_at p.types) answers kinds store kinds) where
+  module _ (answers : AnswerTypes) (kinds : List TypeId) (given : Option Given) (store : Store) (st : StoreTyped (running p.types) answers kinds store kinds) where
     abbrev asked : Exp → Act
     asked e = reduce (head_at p.types) None store e
 
@@ -55,10 +56,10 @@ module _ (p : Program) (lawful : IsLawful (head_at p.types)) where
     reduced e = reduce (head_at p.types) given store e
 
     abbrev S : Act → Type 0
-    S a = Suits (head_at p.types) answers kinds given a
+    S a = Suits (running p.types) answers kinds given a
 
     abbrev K : Act → Type 0
-    K a = KeepsFit (head_at p.types) U answers kinds a
+    K a = KeepsFit (running p.types) U answers kinds a
 
     abbrev Reduces : Exp → Type 0
     Reduces e = S (asked e) → K (reduced e)
@@ -68,10 +69,10 @@ module _ (p : Program) (lawful : IsLawful (head_at p.types)) where
 
     declared_first : (d : Exp) → IsInstalling p.types p answers kinds d → Reduces (let_in Bind d hook_switch)
     declared_first d h =
-        either (head_at p.types) lawful answers kinds (λ x y. S x → K y) d _ _ _ _
+        either (running p.types) lawful answers kinds (λ x y. S x → K y) d _ _ _ _
         (λ v q j. (kinds, longer_self kinds, st, Looks (value_of (shape_of v)) refl (subst (Xs answers kinds) (sym (value_shape v)) ((installing_kept p lawful).value answers kinds v (subst (IsInstalling p.types p answers kinds) q h)))))
         (λ active j. inside_fits p.types (IsInstalling p.types p) U answers kinds (λ f. let_in Bind f hook_switch) (λ longer f l k. Begun f refl k) (reduced d)
-        ((installing_kept p lawful).keeps answers kinds given store d active st h (suits_inside (head_at p.types) lawful answers kinds given (λ f. let_in Bind f hook_switch) (asked d) j)))
+        ((installing_kept p lawful).keeps answers kinds given store d active st h (suits_inside (running p.types) lawful answers kinds given (λ f. let_in Bind f hook_switch) (asked d) j)))
 
     hook_looked_for : (v : Value) → Xs answers kinds v → Reduces (Switch (Do (action.Operate (op.Project 2)) (one (Val v))) (hook_cases (Val v) (Val v)))
     hook_looked_for v x j =
@@ -86,15 +87,15 @@ module _ (p : Program) (lawful : IsLawful (head_at p.types)) where
 
     hook_called : (v f : Value) → Xs answers kinds v → IsFunctionAs p.types answers kinds AHook f → Reduces (then (Do action.Call (one (Val f))) (Val v))
     hook_called v f h i j =
-        inside_fits p.types (GivesResults (head_at p.types) []) U answers kinds (λ e. then e (Val v)) (λ longer e l k. Runs v e refl (longer_exports v longer l h) k) (reduced (Do action.Call (one (Val f))))
-        (begins_fit p.types (GivesResults (head_at p.types) []) answers kinds (reduced (Do action.Call (one (Val f)))) (hook_called_begins p.types lawful answers kinds given store f st i))
+        inside_fits p.types (GivesResults (running p.types) []) U answers kinds (λ e. then e (Val v)) (λ longer e l k. Runs v e refl (longer_exports v longer l h) k) (reduced (Do action.Call (one (Val f))))
+        (begins_fit p.types (GivesResults (running p.types) []) answers kinds (reduced (Do action.Call (one (Val f)))) (hook_called_begins p.types lawful answers kinds given store f st i))
 
-    hook_runs : (v : Value) (b : Exp) → Xs answers kinds v → GivesResults (head_at p.types) [] answers kinds b → Reduces (then b (Val v))
+    hook_runs : (v : Value) (b : Exp) → Xs answers kinds v → GivesResults (running p.types) [] answers kinds b → Reduces (then b (Val v))
     hook_runs v b h i =
-        either (head_at p.types) lawful answers kinds (λ x y. S x → K y) b _ _ _ _
+        either (running p.types) lawful answers kinds (λ x y. S x → K y) b _ _ _ _
         (λ u q j. (kinds, longer_self kinds, st, Ends v refl h))
-        (λ active j. inside_fits p.types (GivesResults (head_at p.types) []) U answers kinds (λ e. then e (Val v)) (λ longer e l k. Runs v e refl (longer_exports v longer l h) k) (reduced b)
-        ((results_kept (head_at p.types) [] lawful).keeps answers kinds given store b active st i (suits_inside (head_at p.types) lawful answers kinds given (λ e. then e (Val v)) (asked b) j)))
+        (λ active j. inside_fits p.types (GivesResults (running p.types) []) U answers kinds (λ e. then e (Val v)) (λ longer e l k. Runs v e refl (longer_exports v longer l h) k) (reduced b)
+        ((results_kept (running p.types) [] lawful).keeps answers kinds given store b active st i (suits_inside (running p.types) lawful answers kinds given (λ e. then e (Val v)) (asked b) j)))
 
     upgrading_reduces : (e : Exp) → IsNoValue e → U answers kinds e → Reduces e
     upgrading_reduces e active (Refused q) = subst Reduces (sym q) (λ j. tt)
@@ -120,10 +121,10 @@ module _ (p : Program) (lawful : IsLawful (head_at p.types)) where
   upgrading_grows answers more kinds longer e k l (Looks v q x) = Looks v q (exports_grow p.types answers more k kinds longer l (program p) v x)
   upgrading_grows answers more kinds longer e k l (Found v x q h i) = Found v x q (exports_grow p.types answers more k kinds longer l (program p) v h) (hook_grow p.types answers more k kinds longer l x i)
   upgrading_grows answers more kinds longer e k l (Calls v f q h i) = Calls v f q (exports_grow p.types answers more k kinds longer l (program p) v h) (function_grow p.types answers more k kinds longer l AHook f i)
-  upgrading_grows answers more kinds longer e k l (Runs v b q h i) = Runs v b q (exports_grow p.types answers more k kinds longer l (program p) v h) ((results_kept (head_at p.types) [] lawful).grows answers more kinds longer b k l i)
+  upgrading_grows answers more kinds longer e k l (Runs v b q h i) = Runs v b q (exports_grow p.types answers more k kinds longer l (program p) v h) ((results_kept (running p.types) [] lawful).grows answers more kinds longer b k l i)
   upgrading_grows answers more kinds longer e k l (Ends v q h) = Ends v q (exports_grow p.types answers more k kinds longer l (program p) v h)
 
-  pub upgrading_kept : IsKept (head_at p.types) U (AreExports p.types p)
+  pub upgrading_kept : IsKept (running p.types) U (AreExports p.types p)
   upgrading_kept = record {
     value = λ answers kinds v h. upgrading_value answers kinds v h;
     grows = λ answers more kinds longer e k l h. upgrading_grows answers more kinds longer e k l h;

@@ -5,7 +5,7 @@ use Rattle.play_script.specs.declared.event.Event.{Event}
 use Rattle.play_script.specs.declared.event.Event.TheVariants as event
 use Rattle.mo_types.specs.declared.node.TypeId.{TypeId}
 use Rattle.mo_types.specs.Calls.{Call, CallTable, call_at, next_number, is_open_state}
-use Rattle.mo_types.specs.Graph.{Slot, head_at}
+use Rattle.mo_types.specs.Graph.{Slot}
 use Rattle.mo_actor.specs.Programs as actor
 use Rattle.mo_actor.specs.States.{WaitsFor, Actor, ActorState, NoActor, Running, activation_at}
 use Rattle.typed_tree.specs.declared.program.Program.{Program as TypedProgram}
@@ -19,7 +19,7 @@ use Rattle.mo_meaning.specs.Kernel.{kernel, Waiting}
 use Rattle.mo_soundness.specs.Running.{AnswerTypes}
 use Rattle.program_soundness.specs.Agreement.{WaitsOn, Agrees, awaited_by}
 use Rattle.program_soundness.specs.Bodies.{FieldsTyped, WaitingTyped}
-use Rattle.program_soundness.specs.Parameters.{HasNoParameters}
+use Rattle.program_soundness.specs.Worlds.{running}
 
 -- an event as a host gives it: its caller is a principal, its code one of 32 bits, and its text is UTF-8
 abbrev pub IsProper : Event → Type 0
@@ -32,7 +32,7 @@ module _ (types : List Slot) (p : Program) where
   pub record WaitFits (answers : AnswerTypes) (kinds : List TypeId) (table : CallTable (List TypeId) Given) (number : ℕ) (w : Waiting) : Type 0 where
     pub made : number < next_number table
     pub typed : (call : Call (List TypeId) Given) → call_at table number ≡ Some call → is_open_state call.state ≡ true
-        → WaitingTyped types p answers kinds w × WaitsOn (head_at types) (awaited_by number call.resumes) w.at
+        → WaitingTyped types p answers kinds w × WaitsOn (running types) (awaited_by number call.resumes) w.at
 
   -- The invariant: with some types of the answers to calls and of the cells, the store and what is exported are typed, the calls agree with them, and so does
   -- what waits.
@@ -41,15 +41,14 @@ module _ (types : List Slot) (p : Program) where
     pub kinds : List TypeId
     pub may_call : answers.may_call ≡ true
     pub fields : FieldsTyped types p answers kinds a.store
-    pub calls : Agrees (head_at types) answers kinds a.table
+    pub calls : Agrees (running types) answers kinds a.table
     pub waits : (owner number : ℕ) (w : Waiting) → activation_at a.activations owner ≡ WaitsFor number w → WaitFits answers kinds a.table number w
 
--- a program that is typed, and whose graph of types is as this crate asks
+-- a program that is typed
 pub record IsTypedProgram (coding : Coding) (q : actor.Program kernel) : Type 0 where
   pub program_of : TypedProgram
   pub first : ℕ
   pub well_typed : WellTyped program_of
-  pub no_parameters : HasNoParameters program_of.types
   pub is : q ≡ meaning coding first program_of.types (program program_of)
 
 -- the same of the state between events: where there is no actor, nothing waits on a call to come

@@ -1,34 +1,25 @@
 -- What is known of an actor's outgoing calls: of each future the type of its answer, and of each answer that it has this type (Motoko language
 -- manual, sections "Async" and "Await").
-use Rattle.std.specs.Prelude.{◌≡◌, ◌≢◌, ℕ, List, ◌++◌, Option, Some, None}
-use Rattle.mo_types.specs.declared.node.Node.{Node}
-use Rattle.mo_types.specs.declared.node.Node.TheVariants as node
-use Rattle.mo_types.specs.declared.node.Sort.{Sort}
-use Rattle.mo_types.specs.declared.node.Sort.TheVariants as sort
+use Rattle.std.specs.Prelude.{◌≡◌, ℕ, List, [], Option, Some, None}
 use Rattle.mo_types.specs.declared.node.TypeId.{TypeId}
 use Rattle.mo_types.specs.Calls.{State, Answered, Call, CallTable, call_at}
-use Rattle.mo_types.specs.Sub.{Each}
 use Rattle.typed_tree.specs.ActionTypes.{ResultOf}
 use Rattle.typed_tree.specs.Language.{Exp}
-use Rattle.typed_tree.specs.Shareable.{IsShareable}
 use Rattle.typed_tree.specs.Wants.{Of}
 use Rattle.mo_meaning.specs.Acts.{Store, Given, Gets, Fails, Awaits}
 use Rattle.mo_meaning.specs.Reduce.{reduce}
 use Rattle.mo_soundness.specs.Running.{AnswerTypes, HasValue, IsErrorValue}
+use Rattle.mo_soundness.specs.Worlds.{World}
 
-module _ (head : TypeId → Node TypeId) where
-  -- what a shared function takes and gives goes into messages
-  abbrev pub MessagesAreShareable : Type 0
-  MessagesAreShareable = (f : TypeId) (how : Sort) (ps rs : List TypeId) → head f ≡ node.Func how ps rs → how ≢ sort.Local → Each (IsShareable head) (ps ++ rs)
-
+module _ (world : World) where
   -- it waits on the future of this call, over each store
   abbrev pub WaitsOn : ℕ → Exp → Type 0
-  WaitsOn future e = (nodes : ℕ) × ((store : Store) → reduce head None store e ≡ Awaits nodes future)
+  WaitsOn future e = (nodes : ℕ) × ((store : Store) → reduce world.meant None store e ≡ Awaits nodes future)
 
   module _ (answers : AnswerTypes) (kinds : List TypeId) where
     -- a value of the type, or an error
     abbrev pub GivenFits : TypeId → Given → Type 0
-    GivenFits t (Gets v) = HasValue head answers kinds (Of t) v
+    GivenFits t (Gets v) = HasValue world answers kinds (Of t) v
     GivenFits t (Fails error) = IsErrorValue error
 
     abbrev pub StateFits : TypeId → State Given → Type 0
@@ -39,8 +30,8 @@ module _ (head : TypeId → Node TypeId) where
     pub record GivesAnswer (table : CallTable (List TypeId) Given) (n : ℕ) (t : TypeId) : Type 0 where
       pub call : Call (List TypeId) Given
       pub is : call_at table n ≡ Some call
-      pub result : ResultOf head call.results t
-      pub shareable : Each (IsShareable head) call.results
+      pub result : ResultOf world.head call.results t
+      pub shareable : world.IsMessage [] call.results
       pub own : call.resumes ≡ None
       pub state : StateFits t call.state
 
@@ -53,5 +44,5 @@ awaited_by number None = number
 awaited_by number (Some future) = future
 
 -- it waits on the call of this number, or on the future that this call resumes
-abbrev pub IsWaiting : (TypeId → Node TypeId) → CallTable (List TypeId) Given → ℕ → Exp → Type 0
-IsWaiting head table number e = (call : Call (List TypeId) Given) × (call_at table number ≡ Some call) × WaitsOn head (awaited_by number call.resumes) e
+abbrev pub IsWaiting : World → CallTable (List TypeId) Given → ℕ → Exp → Type 0
+IsWaiting world table number e = (call : Call (List TypeId) Given) × (call_at table number ≡ Some call) × WaitsOn world (awaited_by number call.resumes) e

@@ -18,11 +18,12 @@ use Rattle.program_soundness.specs.Agreement.{GivenFits, Agrees, WaitsOn, IsWait
 use Rattle.program_soundness.specs.Exports.{ExportsTyped}
 use Rattle.program_soundness.specs.Results.{GivesResults}
 use Rattle.program_soundness.specs.Runs.{Further}
+use Rattle.program_soundness.specs.Worlds.{running, IsCarried}
 
 -- what goes into messages and into stable memory is shareable
 pub record Shares (types : List Slot) (p : Program) : Type 0 where
-  pub parameters : Each (λ (m : Method). Each (IsShareable (head_at types)) m.parameters) p.methods
-  pub results : Each (λ (m : Method). Each (IsShareable (head_at types)) m.results) p.methods
+  pub parameters : Each (λ (m : Method). Each (IsCarried types) m.parameters) p.methods
+  pub results : Each (λ (m : Method). Each (IsCarried types) m.results) p.methods
   pub stable : Each (λ v. IsShareable (head_at types) v.of_type) p.stable
 
 -- a method of the program, or `__resume`
@@ -37,20 +38,20 @@ with_calls table calls = record table { calls = table.calls ++ map (open_call {L
 
 module _ (types : List Slot) (p : Program) (answers : AnswerTypes) (kinds : List TypeId) where
   pub record FieldsTyped (fields : Fields) : Type 0 where
-    pub cells : StoreTyped (head_at types) answers kinds fields.cells kinds
+    pub cells : StoreTyped (running types) answers kinds fields.cells kinds
     pub exports : ExportsTyped types answers kinds p fields.exports
 
   -- a body that waits gives its results
   abbrev pub WaitingTyped : Waiting → Type 0
-  WaitingTyped w = Each (IsShareable (head_at types)) w.results × GivesResults (head_at types) w.results answers kinds w.at
+  WaitingTyped w = Each (IsCarried types) w.results × GivesResults (running types) w.results answers kinds w.at
 
   -- a method with arguments of its types; or a body that waits on a future, with an answer of its type
   abbrev pub BodyFits : Body → Type 0
-  BodyFits (Enters entry caller vs) = IsEntry p entry × (length caller ≤ 29) × HasEach (head_at types) answers kinds (map (λ t. Of t) entry.parameters) vs
-  BodyFits (Resumes w g) = WaitingTyped w × ((future : ℕ) × (t : TypeId) × (answers.types future ≡ Some t) × WaitsOn (head_at types) future w.at × GivenFits (head_at types) answers kinds t g)
+  BodyFits (Enters entry caller vs) = IsEntry p entry × (length caller ≤ 29) × HasEach (running types) answers kinds (map (λ t. Of t) entry.parameters) vs
+  BodyFits (Resumes w g) = WaitingTyped w × ((future : ℕ) × (t : TypeId) × (answers.types future ≡ Some t) × WaitsOn (running types) future w.at × GivenFits (running types) answers kinds t g)
 
   abbrev pub EndingFits : CallTable (List TypeId) Given → Ending kernel → Type 0
-  EndingFits table (Awaits number w) = WaitingTyped w × IsWaiting (head_at types) table number w.at
+  EndingFits table (Awaits number w) = WaitingTyped w × IsWaiting (running types) table number w.at
   EndingFits table (Answers answer) = Unit {0}
   EndingFits table AwaitsNothing = Unit {0}
   EndingFits table Unchanged = Unit {0}
@@ -59,4 +60,4 @@ module _ (types : List Slot) (p : Program) (answers : AnswerTypes) (kinds : List
 abbrev pub EffectsFit : List Slot → Program → AnswerTypes → List TypeId → CallTable (List TypeId) Given → Effects kernel → Type 0
 EffectsFit types p answers kinds table effects =
     Further answers kinds (λ more longer.
-    FieldsTyped types p more longer effects.store × Agrees (head_at types) more longer (with_calls table effects.calls) × EndingFits types p more longer (with_calls table effects.calls) effects.ending)
+    FieldsTyped types p more longer effects.store × Agrees (running types) more longer (with_calls table effects.calls) × EndingFits types p more longer (with_calls table effects.calls) effects.ending)

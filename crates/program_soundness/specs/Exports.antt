@@ -2,13 +2,14 @@
 -- manual, sections "Actors" and "Stability").
 use Rattle.std.specs.Prelude.{◌≡◌, ◌⊎◌, List, [], ◌∷◌}
 use Rattle.mo_types.specs.declared.node.TypeId.{TypeId}
-use Rattle.mo_types.specs.Graph.{Slot, head_at}
+use Rattle.mo_types.specs.Graph.{Slot}
 use Rattle.mo_values.specs.Shapes.{Bytes, Present, Tuple, Object}
 use Rattle.typed_tree.specs.Language.{Value, Values, Made, NoValue, AValue, null}
 use Rattle.typed_tree.specs.Programs.{Program, Method, StableVariable}
 use Rattle.typed_tree.specs.Wants.{CellOf}
 use Rattle.mo_soundness.specs.Running.{AnswerTypes, HasValue}
 use Rattle.program_soundness.specs.Roles.{AMethod, AHook, IsFunctionAs}
+use Rattle.program_soundness.specs.Worlds.{running, kept_type}
 
 module _ (types : List Slot) (answers : AnswerTypes) (kinds : List TypeId) where
   abbrev pub MethodsTyped : List Method → Values → Type 0
@@ -21,7 +22,7 @@ module _ (types : List Slot) (answers : AnswerTypes) (kinds : List TypeId) where
 
   abbrev pub CellsTyped : List StableVariable → Values → Type 0
   CellsTyped [] NoValue = Unit {0}
-  CellsTyped (s ∷ stable) (AValue v vs) = HasValue (head_at types) answers kinds (CellOf s.of_type) v × CellsTyped stable vs
+  CellsTyped (s ∷ stable) (AValue v vs) = HasValue (running types) answers kinds (CellOf (kept_type types s.of_type)) v × CellsTyped stable vs
   CellsTyped _ _ = ⊥
 
   pub record ExportsTyped (p : Program) (exports : Value) : Type 0 where

@@ -1,5 +1,4 @@
-pub mod Parameters
-pub mod Opening
+pub mod Worlds
 pub mod Agreement
 pub mod Runs
 pub mod Roles

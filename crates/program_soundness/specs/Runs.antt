@@ -2,10 +2,8 @@
 -- expression is typed, and what is known of its value, are parameters here: an actor's declarations end in a value that has no type.
 use Rattle.std.specs.Prelude.{◌≡◌, List, [], ◌++◌, map, true, false, Option, None}
 use Rattle.std.specs.Str.{is_utf8}
-use Rattle.mo_types.specs.declared.node.Node.{Node}
 use Rattle.mo_types.specs.declared.node.TypeId.{TypeId}
 use Rattle.mo_types.specs.Calls.{CallTable}
-use Rattle.mo_types.specs.Graph.{head_at}
 use Rattle.mo_types.specs.Sub.{AtSome}
 use Rattle.mo_actor.specs.Completions.{open_call}
 use Rattle.typed_tree.specs.Language.{Value, Exp, Val}
@@ -18,6 +16,8 @@ use Rattle.mo_meaning.specs.Reduce.{reduce}
 use Rattle.mo_soundness.specs.Keeps.{IsLonger, IsNoValue, IsRequest, KnowsMore, Suits, closed}
 use Rattle.mo_soundness.specs.Running.{AnswerTypes, HasValue, StoreTyped, Typed, IsErrorValue}
 use Rattle.program_soundness.specs.Agreement.{Agrees, IsWaiting}
+use Rattle.program_soundness.specs.Worlds.{running}
+use Rattle.mo_soundness.specs.Worlds.{World}
 
 -- which expressions, and which values, fit with the types of answers and cells
 abbrev pub Fitting : Type 0 → Type 1
@@ -31,20 +31,20 @@ Grows answers more = KnowsMore answers more × (answers.may_call ≡ false → m
 abbrev pub Further : AnswerTypes → List TypeId → (AnswerTypes → List TypeId → Type 0) → Type 0
 Further answers kinds p = (more : AnswerTypes) × (longer : List TypeId) × Grows answers more × IsLonger kinds longer × p more longer
 
-module _ (head : TypeId → Node TypeId) (w : Want TypeId) where
+module _ (world : World) (w : Want TypeId) where
   -- closed expressions that give this, outside all labels
   abbrev pub Gives : Fitting Exp
-  Gives answers kinds e = Typed head answers kinds (closed []) e w
+  Gives answers kinds e = Typed world answers kinds (closed []) e w
 
   abbrev pub IsValueOf : Fitting Value
-  IsValueOf answers kinds v = HasValue head answers kinds w v
+  IsValueOf answers kinds v = HasValue world answers kinds w v
 
-module _ (head : TypeId → Node TypeId) (P : Fitting Exp) where
+module _ (world : World) (P : Fitting Exp) where
   -- what a reduction keeps outside all labels
   abbrev pub KeepsFit : AnswerTypes → List TypeId → Act → Type 0
-  KeepsFit answers kinds (Goes cost store e) = (more : List TypeId) × IsLonger kinds more × StoreTyped head answers more store more × P answers more e
+  KeepsFit answers kinds (Goes cost store e) = (more : List TypeId) × IsLonger kinds more × StoreTyped world answers more store more × P answers more e
   KeepsFit answers kinds (Prints cost text e) = (is_utf8 text ≡ true) × P answers kinds e
-  KeepsFit answers kinds (Asks request) = IsRequest head answers kinds request
+  KeepsFit answers kinds (Asks request) = IsRequest world answers kinds request
   KeepsFit answers kinds (Awaits nodes call) = AtSome (answers.types call) (λ t. Unit {0}) × (answers.may_call ≡ true)
   KeepsFit answers kinds (Leaves label v) = ⊥
   KeepsFit answers kinds (Throws cost error) = IsErrorValue error × (answers.may_call ≡ true)
@@ -61,8 +61,8 @@ module _ (head : TypeId → Node TypeId) (P : Fitting Exp) where
   pub record IsKept (Q : Fitting Value) : Type 0 where
     pub value : (answers : AnswerTypes) (kinds : List TypeId) (v : Value) → P answers kinds (Val v) → Q answers kinds v
     pub grows : (answers more : AnswerTypes) (kinds longer : List TypeId) (e : Exp) → KnowsMore answers more → IsLonger kinds longer → P answers kinds e → P more longer e
-    pub keeps : (answers : AnswerTypes) (kinds : List TypeId) (given : Option Given) (store : Store) (e : Exp) → IsNoValue e → StoreTyped head answers kinds store kinds → P answers kinds e
-        → Suits head answers kinds given (reduce head None store e) → KeepsFit answers kinds (reduce head given store e)
+    pub keeps : (answers : AnswerTypes) (kinds : List TypeId) (given : Option Given) (store : Store) (e : Exp) → IsNoValue e → StoreTyped world answers kinds store kinds → P answers kinds e
+        → Suits world answers kinds given (reduce world.meant None store e) → KeepsFit answers kinds (reduce world.meant given store e)
 
 module _ (s : Surroundings) where
   -- the outgoing calls, those of this execution among them
@@ -73,7 +73,7 @@ module _ (s : Surroundings) where
     -- the store is typed; what is known of the calls agrees, where any may be made, and else none was
     abbrev pub IsTypedState : Configuration → Type 0
     IsTypedState c =
-        StoreTyped (head_at s.types) answers kinds c.store kinds × (answers.may_call ≡ true → Agrees (head_at s.types) answers kinds (table_now c)) × (answers.may_call ≡ false → c.calls ≡ [])
+        StoreTyped (running s.types) answers kinds c.store kinds × (answers.may_call ≡ true → Agrees (running s.types) answers kinds (table_now c)) × (answers.may_call ≡ false → c.calls ≡ [])
 
   module _ (P : Fitting Exp) (Q : Fitting Value) where
     -- an execution that has come so far
@@ -84,7 +84,7 @@ module _ (s : Surroundings) where
     abbrev pub EndFits : Configuration → End → AnswerTypes → List TypeId → Type 0
     EndFits c (Returns v) answers kinds = IsTypedState answers kinds c × Q answers kinds v
     EndFits c (Responds answer) answers kinds = IsTypedState answers kinds c × (answers.may_call ≡ true)
-    EndFits c (Suspends number nodes) answers kinds = Stands c answers kinds × IsWaiting (head_at s.types) (table_now c) number c.at × (answers.may_call ≡ true)
+    EndFits c (Suspends number nodes) answers kinds = Stands c answers kinds × IsWaiting (running s.types) (table_now c) number c.at × (answers.may_call ≡ true)
     EndFits c Sleeps answers kinds = IsTypedState answers kinds c × (answers.may_call ≡ true)
     EndFits c (Traps text) answers kinds = Unit {0}
     EndFits c Breaks answers kinds = ⊥

@@ -25,6 +25,7 @@ use Rattle.program_soundness.specs.Exports.{HookTyped, ExportsTyped}
 use Rattle.program_soundness.specs.Results.{GivesResults}
 use Rattle.program_soundness.specs.Roles.{AHook, IsFunctionAs}
 use Rattle.program_soundness.specs.Runs.{Fitting}
+use Rattle.program_soundness.specs.Worlds.{running}
 
 -- it is the value, or an operation on values that gives it
 abbrev pub Soon : (TypeId → Node TypeId) → Exp → Value → Type 0
@@ -71,5 +72,5 @@ module _ (types : List Slot) (p : Program) (answers : AnswerTypes) (kinds : List
     Looks : (v : Value) → e ≡ Switch (Do (action.Operate (op.Project 2)) (one (Val v))) (hook_cases (Val v) (Val v)) → ExportsTyped types answers kinds (program p) v → IsUpgrading e
     Found : (v x : Value) → e ≡ Switch (Val x) (hook_cases (Val v) (Val v)) → ExportsTyped types answers kinds (program p) v → HookTyped types answers kinds x → IsUpgrading e
     Calls : (v f : Value) → e ≡ then (Do action.Call (one (Val f))) (Val v) → ExportsTyped types answers kinds (program p) v → IsFunctionAs types answers kinds AHook f → IsUpgrading e
-    Runs : (v : Value) (b : Exp) → e ≡ then b (Val v) → ExportsTyped types answers kinds (program p) v → GivesResults (head_at types) [] answers kinds b → IsUpgrading e
+    Runs : (v : Value) (b : Exp) → e ≡ then b (Val v) → ExportsTyped types answers kinds (program p) v → GivesResults (running types) [] answers kinds b → IsUpgrading e
     Ends : (v : Value) → e ≡ Val v → ExportsTyped types answers kinds (program p) v → IsUpgrading e

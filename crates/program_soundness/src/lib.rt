@@ -6,6 +6,6 @@ mod laws;
 
 pub use laws::{
     actors_go_on, actors_stay_typed, bodies_end_as_typed, declarations_are_typed,
-    executions_keep_types, messages_keep_types, patterns_are_typed, savings_end_as_typed,
-    small_programs_are_typed, starts_end_as_typed,
+    executions_keep_types, messages_keep_types, savings_end_as_typed, small_programs_are_typed,
+    starts_end_as_typed,
 };
