@@ -49,9 +49,11 @@ fn if_red(alloc: Global, boolean: TypeId, light: TypeId) -> Result<TypedPattern,
 fn both_truth_values_are_whole(rt: HostRuntime) -> Result<(), Fail> {
     let (types, boolean, _) = small_types(rt.alloc())?;
     let table = types_with_values(rt.alloc(), &types)?;
+    let no = if_flag(rt.alloc(), boolean, false)?;
+    let yes = if_flag(rt.alloc(), boolean, true)?;
     let mut cases = Vec::new(rt.alloc());
-    cases.push(if_flag(rt.alloc(), boolean, false)?)?;
-    cases.push(if_flag(rt.alloc(), boolean, true)?)?;
+    cases.push(&no)?;
+    cases.push(&yes)?;
     let cover = covers(
         rt.alloc(),
         &types,
@@ -68,8 +70,9 @@ fn both_truth_values_are_whole(rt: HostRuntime) -> Result<(), Fail> {
 fn a_tag_is_missed(rt: HostRuntime) -> Result<(), Fail> {
     let (types, boolean, light) = small_types(rt.alloc())?;
     let table = types_with_values(rt.alloc(), &types)?;
+    let red = if_red(rt.alloc(), boolean, light)?;
     let mut cases = Vec::new(rt.alloc());
-    cases.push(if_red(rt.alloc(), boolean, light)?)?;
+    cases.push(&red)?;
     let cover = covers(
         rt.alloc(),
         &types,

@@ -6,20 +6,19 @@ use Rattle.mo_types.specs.declared.node.Field.{Field}
 use Rattle.mo_types.specs.declared.node.Node.{Node}
 use Rattle.mo_types.specs.declared.node.Node.TheVariants as node
 use Rattle.mo_types.specs.declared.node.TypeId.{TypeId}
-use Rattle.mo_types.specs.Graph.{Slot, head_at}
+use Rattle.mo_types.specs.Graph.{Slot}
 use Rattle.mo_types.specs.Sub.{AtSome, Each, find}
 use Rattle.mo_values.specs.Shapes.{Bytes, Tag, Shape, Made, NoShape, AShape}
 use Rattle.mo_values.specs.Views.{tuple_of}
 use Rattle.typed_tree.specs.Patterns.{Pat, Pats, Wildcard, Bind, Tagged, Parts, NoPat, APat, Found, all_of, where_there, matches, matches_all}
 use Rattle.typed_tree.specs.Types.{AreLawful}
-use Rattle.typed_tree.proofs.OwnLabels.{labels_own}
 use Rattle.pattern_elab.specs.Suiting.{Suits, SuitAll}
 use Rattle.pattern_coverage.specs.Cover as cover
 use Rattle.pattern_coverage.specs.Cover.{Coverage, IsExact, Tells, coverage}
+use Rattle.pattern_coverage.specs.Followed.{value_head}
 use Rattle.pattern_coverage.specs.Inhabited.{HasValues, IsValue}
 use Rattle.pattern_coverage.specs.Suited.{IsOn, OnPart, OnVariant}
-use Rattle.pattern_coverage.proofs.Covered.{exact}
-use Rattle.pattern_coverage.proofs.Having.{type_has}
+use Rattle.pattern_coverage.proofs.Covered.{exact, having}
 use Rattle.pattern_coverage.proofs.Option.{bytes_same, bytes_self}
 use Rattle.pattern_coverage.proofs.Seen.{TagSeen, TagIs, tag_seen}
 use Rattle.pattern_coverage.specs.Inhabited.{everything}
@@ -68,9 +67,9 @@ field_place (f ∷ fs) l g e = by (bytes_eq f.label l) refl e (field_place fs l 
     by true q e k = let s : f ≡ g = cc in record { place = 0; there = e; label = ap (λ (x : Field TypeId). x.label) (sym s) ∙ bytes_same f.label l q }
     by false q e k = let r : Place fs l g = k e in record { place = suc r.place; there = r.there; label = r.label }
 
-module _ {F : Type 0} (sample : F) (types : List Slot) (has : TypeId → Bool) (t : TypeId) (ps : List Pat) (lawful : AreLawful types) (tells : Tells (head_at types) has) (on : Each (λ p. IsOn (head_at types) p t) ps) where
+module _ {F : Type 0} (sample : F) (types : List Slot) (has : TypeId → Bool) (t : TypeId) (ps : List Pat) (lawful : AreLawful types) (tells : Tells (value_head types) has) (on : Each (λ p. IsOn (value_head types) p t) ps) where
   abbrev head : TypeId → Node TypeId
-  head = head_at types
+  head = value_head types
 
   abbrev Missing : Shape F → Type 0
   Missing v = Each (λ p. matches p v ≡ None) ps
@@ -90,7 +89,7 @@ module _ {F : Type 0} (sample : F) (types : List Slot) (has : TypeId → Bool) (
   under : (fs : List (Field TypeId)) → head t ≡ node.Variant fs → AreEasyUnder has fs ps → (kinds : List TypeId) → Each (HasValues head) kinds → (v : Shape F) → TagSeen head (everything head) kinds fs v → Missing v → ⊥
   under fs e easy kinds contents v (TagIs m g w q a) none =
       let r : Place fs m g = field_place fs m g q in
-      let h : has g.part ≡ true = (tells g.part).1 (type_has head lawful.bounds (labels_own types lawful) kinds contents g.part w a) in
+      let h : has g.part ≡ true = (tells g.part).1 (having sample types has t ps lawful tells on kinds contents g.part w a) in
       let s : IsEasyUnder ps g.label = easy r.place g r.there h in
       let o : OnPart (λ u. IsOn head s.1 u) (find g.label fs) = subst (OnVariant (λ u. IsOn head s.1 u) g.label) e (at_each (λ p. IsOn head p t) ps s.0 (Tagged g.label s.1) s.2 on) in
       let i : IsOn head s.1 g.part = subst (OnPart (λ u. IsOn head s.1 u)) (ap (λ l. find l fs) r.label ∙ q) o in

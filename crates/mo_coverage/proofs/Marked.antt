@@ -4,8 +4,7 @@ use Rattle.std.specs.Prelude.{slice_get, slice_set}
 use Rattle.std.specs.Option.{option_map}
 use Rattle.std.proofs.lemmas.Option.{slice_get-map, slice_get_read}
 use Rattle.std.proofs.Math.ListN.{replicate}
-use Rattle.typed_tree.specs.declared.pattern.TypedPattern.{TypedPattern}
-use Rattle.typed_tree.specs.PatternView.{pattern}
+use Rattle.typed_tree.specs.Patterns.{Pat}
 
 pub none_marked : (n i : ℕ) → slice_get (replicate n false) i ≡ Some true → ⊥
 none_marked zero i e = cc
@@ -23,5 +22,5 @@ set_true (m ∷ marks) (suc j) (suc i) e = by (set_true marks j i e)
     by (inl h) = inl h
     by (inr h) = inr (ap suc h)
 
-pub at_index : (ps : List TypedPattern) (i : ℕ) (p : TypedPattern) → i < length ps → p ≡ get_or ps i p → slice_get (map pattern ps) i ≡ Some (pattern p)
-at_index ps i p h e = slice_get-map pattern ps i ∙ ap (option_map pattern) (slice_get_read ps (length ps) i p refl h e)
+pub at_index : {A : Type 0} (f : A → Pat) (ps : List A) (i : ℕ) (p : A) → i < length ps → p ≡ get_or ps i p → slice_get (map f ps) i ≡ Some (f p)
+at_index f ps i p h e = slice_get-map f ps i ∙ ap (option_map f) (slice_get_read ps (length ps) i p refl h e)

@@ -1,10 +1,10 @@
 //! Patterns cut what is known of a value into pieces: of each it is sure that the pattern matches all of its values, or none.
 ghost use Rattle.std.specs.Prelude.{◌≡◌, ◌∷◌, [], IfOk, OnOk, ◌++◌, true, false, Some};
-ghost use Rattle.mo_types.specs.Graph.{head_at};
 ghost use Rattle.typed_tree.specs.PatternView.{literal_pattern, pats, pattern, patterns};
 ghost use Rattle.typed_tree.specs.Patterns.{Fields, NoPat, Parts};
 ghost use Rattle.typed_tree.specs.ViewLaws.{labels_of, patterns_of};
 ghost use Rattle.pattern_coverage.specs.Cutting.{cut, or_else};
+ghost use Rattle.pattern_coverage.specs.Followed.{value_head};
 ghost use Rattle.pattern_coverage.specs.Inhabited.{in_table};
 ghost use Rattle.mo_coverage.specs.ColumnView.{column_in, columns_in};
 ghost use Rattle.mo_coverage.specs.Columns.{column, cut_one, cut_typed, fields_cut, parts_cut};
@@ -24,6 +24,7 @@ use crate::shape::Shape;
 use crate::tags::{seat_at, seat_of};
 use mo_num::{Bytes, Memory};
 use mo_types::{Field, Node, TypeGraph, TypeId};
+use pattern_coverage::value_node;
 use std::alloc::Global;
 use typed_tree::{Literal, PatternField, PatternForm, TypedPattern};
 
@@ -34,10 +35,10 @@ fn cut_unit(
     id: TypeId,
     shape: Shape,
 ) -> Result<Vec<Piece>, Memory>
-    ensures { IfOk result (λ made. pieces_in made.items ≡ cut (head_at types.now) (in_table table.now) (Parts NoPat) id (known shape)) }
+    ensures { IfOk result (λ made. pieces_in made.items ≡ cut (value_head types.now) (in_table table.now) (Parts NoPat) id (known shape)) }
 {
     let _table = table;
-    match types.get(id) {
+    match value_node(types, id) {
         Some(Node::Tuple(ids)) => match take_tuple(alloc, ids.len(), shape)? {
             Taken::Parts(parts) => one(alloc, true, Shape::Parts(parts)),
             Taken::Other(other) => one(alloc, false, other),
@@ -55,13 +56,13 @@ fn cut_constant(
     id: TypeId,
     shape: Shape,
 ) -> Result<Vec<Piece>, Memory>
-    ensures { IfOk result (λ made. pieces_in made.items ≡ cut (head_at types.now) (in_table table.now) (literal_pattern literal.now) id (known shape)) }
+    ensures { IfOk result (λ made. pieces_in made.items ≡ cut (value_head types.now) (in_table table.now) (literal_pattern literal.now) id (known shape)) }
 {
     match literal {
         Literal::Unit => cut_unit(alloc, types, table, id, shape),
         _ => {
             let part = part_of(alloc, literal)?;
-            match types.get(id) {
+            match value_node(types, id) {
                 Some(node) => cut_literal(alloc, table, part, node, shape),
                 None => cut_literal(alloc, table, part, &Node::Bottom, shape),
             }
@@ -81,7 +82,7 @@ pub(crate) fn cut(
     id: TypeId,
     shape: Shape,
 ) -> Result<Vec<Piece>, Memory>
-    ensures { IfOk result (λ made. pieces_in made.items ≡ cut (head_at types.now) (in_table table.now) (pattern typed.now) id (known shape)) }
+    ensures { IfOk result (λ made. pieces_in made.items ≡ cut (value_head types.now) (in_table table.now) (pattern typed.now) id (known shape)) }
 {
     match typed.form.get() {
         PatternForm::Wildcard | PatternForm::Bind => one(alloc, true, shape),
@@ -116,7 +117,7 @@ fn cut_opened(
     tag: &Option<Bytes>,
     opened: Opened,
 ) -> Result<Vec<Piece>, Memory>
-    ensures { IfOk result (λ made. pieces_in made.items ≡ pieces_of (λ u j. cut (head_at types.now) (in_table table.now) (pattern typed.now) u j) (wrap tag.now) (opened_in opened)) }
+    ensures { IfOk result (λ made. pieces_in made.items ≡ pieces_of (λ u j. cut (value_head types.now) (in_table table.now) (pattern typed.now) u j) (wrap tag.now) (opened_in opened)) }
 {
     let Opened {
         before,
@@ -149,7 +150,7 @@ fn cut_others(
     id: TypeId,
     pieces: Vec<Piece>,
 ) -> Result<Vec<Piece>, Memory>
-    ensures { IfOk result (λ made. pieces_in made.items ≡ or_else (pieces_in pieces.items) (λ j. cut (head_at types.now) (in_table table.now) (pattern typed.now) id j)) }
+    ensures { IfOk result (λ made. pieces_in made.items ≡ or_else (pieces_in pieces.items) (λ j. cut (value_head types.now) (in_table table.now) (pattern typed.now) id j)) }
 {
     let mut made = Vec::new(alloc);
     for piece in pieces {
@@ -172,9 +173,9 @@ fn cut_tuple(
     id: TypeId,
     shape: Shape,
 ) -> Result<Vec<Piece>, Memory>
-    ensures { IfOk result (λ made. pieces_in made.items ≡ cut (head_at types.now) (in_table table.now) (Parts (patterns parts.now)) id (known shape)) }
+    ensures { IfOk result (λ made. pieces_in made.items ≡ cut (value_head types.now) (in_table table.now) (Parts (patterns parts.now)) id (known shape)) }
 {
-    match types.get(id) {
+    match value_node(types, id) {
         Some(Node::Tuple(ids)) => match take_tuple(alloc, ids.len(), shape)? {
             Taken::Parts(known) => {
                 let columns = one_column(alloc, known)?;
@@ -196,9 +197,9 @@ fn cut_object(
     id: TypeId,
     shape: Shape,
 ) -> Result<Vec<Piece>, Memory>
-    ensures { IfOk result (λ made. pieces_in made.items ≡ cut (head_at types.now) (in_table table.now) (Fields (labels_of parts.now) (pats (patterns_of parts.now))) id (known shape)) }
+    ensures { IfOk result (λ made. pieces_in made.items ≡ cut (value_head types.now) (in_table table.now) (Fields (labels_of parts.now) (pats (patterns_of parts.now))) id (known shape)) }
 {
-    match types.get(id) {
+    match value_node(types, id) {
         Some(Node::Object(fields)) => match take_object(alloc, fields.len(), shape)? {
             Taken::Parts(known) => {
                 let columns = one_column(alloc, known)?;
@@ -221,7 +222,7 @@ fn cut_parts(
     ids: &[TypeId],
     columns: Vec<Column>,
 ) -> Result<Vec<Column>, Memory>
-    ensures { IfOk result (λ made. columns_in made.items ≡ parts_cut (head_at types.now) (in_table table.now) (patterns parts.now) 0 ids.now (columns_in columns.items)) }
+    ensures { IfOk result (λ made. columns_in made.items ≡ parts_cut (value_head types.now) (in_table table.now) (patterns parts.now) 0 ids.now (columns_in columns.items)) }
 {
     let mut columns = columns;
     for (place, part) in parts.iter().enumerate() {
@@ -248,7 +249,7 @@ fn cut_fields(
     fields: &[Field],
     columns: Vec<Column>,
 ) -> Result<Vec<Column>, Memory>
-    ensures { IfOk result (λ made. columns_in made.items ≡ fields_cut (head_at types.now) (in_table table.now) (labels_of parts.now) (pats (patterns_of parts.now)) fields.now (columns_in columns.items)) }
+    ensures { IfOk result (λ made. columns_in made.items ≡ fields_cut (value_head types.now) (in_table table.now) (labels_of parts.now) (pats (patterns_of parts.now)) fields.now (columns_in columns.items)) }
 {
     let mut columns = columns;
     for part in parts {
@@ -269,7 +270,7 @@ fn cut_seat(
     strict: bool,
     columns: Vec<Column>,
 ) -> Result<Vec<Column>, Memory>
-    ensures { IfOk result (λ made. columns_in made.items ≡ cut_typed (λ u j. cut (head_at types.now) (in_table table.now) (pattern typed.now) u j) strict seat (columns_in columns.items)) }
+    ensures { IfOk result (λ made. columns_in made.items ≡ cut_typed (λ u j. cut (value_head types.now) (in_table table.now) (pattern typed.now) u j) strict seat (columns_in columns.items)) }
 {
     match seat {
         Some((place, id)) => {
@@ -297,7 +298,7 @@ fn cut_one(
     column: Column,
     columns: &mut Vec<Column>,
 ) -> Result<(), Memory>
-    ensures { OnOk result (columns_in columns.new.items ≡ columns_in columns.old.items ++ cut_one (λ j. cut (head_at types.now) (in_table table.now) (pattern typed.now) id j) strict place (column_in column)) }
+    ensures { OnOk result (columns_in columns.new.items ≡ columns_in columns.old.items ++ cut_one (λ j. cut (value_head types.now) (in_table table.now) (pattern typed.now) id j) strict place (column_in column)) }
 {
     let Column { matched, mut parts } = column;
     if !matched {

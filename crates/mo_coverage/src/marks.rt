@@ -51,11 +51,11 @@ fn is_easy(typed: &TypedPattern) -> bool
 }
 
 /// Whether one of the patterns matches all values, where that shows at once.
-pub(crate) fn some_easy(patterns: &[TypedPattern]) -> bool
-    ensures { IsTrue result → SomeEasy (map pattern patterns.now) }
+pub(crate) fn some_easy(patterns: &[&TypedPattern]) -> bool
+    ensures { IsTrue result → SomeEasy (map (λ p. pattern p.now) patterns.now) }
 {
     for typed in patterns {
-        if is_easy(typed) {
+        if is_easy(*typed) {
             return true;
         }
     }
@@ -101,13 +101,13 @@ fn mark(tags: &[Field], hints: &Hints<'_>, typed: &TypedPattern, marks: &mut Vec
     }
 }
 
-fn all_marks(alloc: Global, tags: &[Field], patterns: &[TypedPattern]) -> Result<Vec<bool>, Memory>
-    ensures { IfOk result (λ marks. AreMarked tags.now marks.items (map pattern patterns.now)) }
+fn all_marks(alloc: Global, tags: &[Field], patterns: &[&TypedPattern]) -> Result<Vec<bool>, Memory>
+    ensures { IfOk result (λ marks. AreMarked tags.now marks.items (map (λ p. pattern p.now) patterns.now)) }
 {
     let hints = hints(alloc, tags)?;
     let mut marks = vec![in alloc; false; tags.len()]?;
     for typed in patterns {
-        mark(tags, &hints, typed, &mut marks);
+        mark(tags, &hints, *typed, &mut marks);
     }
     Ok(marks)
 }
@@ -130,9 +130,9 @@ pub(crate) fn are_easy(
     alloc: Global,
     table: &[bool],
     tags: &[Field],
-    patterns: &[TypedPattern],
+    patterns: &[&TypedPattern],
 ) -> Result<bool, Memory>
-    ensures { IfOk result (λ all. IsTrue all → AreEasyUnder (in_table table.now) tags.now (map pattern patterns.now)) }
+    ensures { IfOk result (λ all. IsTrue all → AreEasyUnder (in_table table.now) tags.now (map (λ p. pattern p.now) patterns.now)) }
 {
     let marks = all_marks(alloc, tags, patterns)?;
     Ok(are_marked(table, tags, marks.as_slice()))

@@ -1,12 +1,12 @@
 //! Whether patterns cover a type.
 ghost use Rattle.std.specs.Prelude.{◌≡◌, ◌++◌, [], ◌∷◌, IfOk, IsTrue, OnOk, map};
-ghost use Rattle.mo_types.specs.Graph.{head_at};
 ghost use Rattle.mo_types.specs.Sub.{Each};
 ghost use Rattle.typed_tree.specs.Opening.{Code};
 ghost use Rattle.typed_tree.specs.PatternView.{pattern};
 ghost use Rattle.typed_tree.specs.Types.{AreLawful};
 ghost use Rattle.pattern_coverage.specs.Cover.{IsExact, Tells, coverage, first_missed};
 ghost use Rattle.pattern_coverage.specs.Cutting.{cut};
+ghost use Rattle.pattern_coverage.specs.Followed.{value_head};
 ghost use Rattle.pattern_coverage.specs.Inhabited.{in_table};
 ghost use Rattle.pattern_coverage.specs.Known.{Unknown};
 ghost use Rattle.pattern_coverage.specs.Suited.{IsOn};
@@ -21,7 +21,7 @@ use crate::pieces::Piece;
 use crate::shape::Shape;
 use mo_num::Memory;
 use mo_types::{Node, TypeGraph, TypeId};
-use pattern_coverage::is_in;
+use pattern_coverage::{is_in, value_node};
 use std::alloc::Global;
 use typed_tree::TypedPattern;
 
@@ -57,7 +57,7 @@ fn miss(
     id: TypeId,
     shapes: Vec<Shape>,
 ) -> Result<Vec<Shape>, Memory>
-    ensures { IfOk result (λ made. all_known made.items ≡ missed_by (cut (head_at types.now) (in_table table.now) (pattern typed.now) id) (all_known shapes.items)) }
+    ensures { IfOk result (λ made. all_known made.items ≡ missed_by (cut (value_head types.now) (in_table table.now) (pattern typed.now) id) (all_known shapes.items)) }
 {
     let mut made = Vec::new(alloc);
     for shape in shapes {
@@ -83,15 +83,15 @@ fn miss_all(
     alloc: Global,
     types: &TypeGraph,
     table: &[bool],
-    patterns: &[TypedPattern],
+    patterns: &[&TypedPattern],
     id: TypeId,
 ) -> Result<Vec<Shape>, Memory>
-    ensures { IfOk result (λ made. all_known made.items ≡ missed_by_all (head_at types.now) (in_table table.now) (map pattern patterns.now) id (Unknown ∷ [])) }
+    ensures { IfOk result (λ made. all_known made.items ≡ missed_by_all (value_head types.now) (in_table table.now) (map (λ p. pattern p.now) patterns.now) id (Unknown ∷ [])) }
 {
     let mut shapes = Vec::new(alloc);
     shapes.push(Shape::Unknown)?;
     for typed in patterns {
-        shapes = miss(alloc, types, table, typed, id, shapes)?;
+        shapes = miss(alloc, types, table, *typed, id, shapes)?;
     }
     Ok(shapes)
 }
@@ -101,15 +101,15 @@ fn is_easily_whole(
     alloc: Global,
     types: &TypeGraph,
     table: &[bool],
-    patterns: &[TypedPattern],
+    patterns: &[&TypedPattern],
     id: TypeId,
 ) -> Result<bool, Memory>
-    ensures { IfOk result (λ all. IsTrue all → IsEasilyWhole (in_table table.now) (head_at types.now id) (map pattern patterns.now)) }
+    ensures { IfOk result (λ all. IsTrue all → IsEasilyWhole (in_table table.now) (value_head types.now id) (map (λ p. pattern p.now) patterns.now)) }
 {
     if some_easy(patterns) {
         return Ok(true);
     }
-    match types.get(id) {
+    match value_node(types, id) {
         Some(Node::Variant(tags)) => are_easy(alloc, table, tags.as_slice(), patterns),
         _ => Ok(false),
     }
@@ -122,14 +122,14 @@ pub fn covers(
     alloc: Global,
     types: &TypeGraph,
     table: &[bool],
-    patterns: &[TypedPattern],
+    patterns: &[&TypedPattern],
     id: TypeId,
 ) -> Result<Cover, Memory>
     requires lawful { AreLawful types.now }
-    requires table { Tells (head_at types.now) (in_table table.now) }
-    requires on { Each (λ p. IsOn (head_at types.now) p id) (map pattern patterns.now) }
-    ensures coverage { IfOk result (λ cover. cover_in cover ≡ coverage (head_at types.now) (in_table table.now) (map pattern patterns.now) id) }
-    ensures exact { IfOk result (λ cover. IsExact (head_at types.now) Code id (map pattern patterns.now) (cover_in cover)) }
+    requires table { Tells (value_head types.now) (in_table table.now) }
+    requires on { Each (λ p. IsOn (value_head types.now) p id) (map (λ p. pattern p.now) patterns.now) }
+    ensures coverage { IfOk result (λ cover. cover_in cover ≡ coverage (value_head types.now) (in_table table.now) (map (λ p. pattern p.now) patterns.now) id) }
+    ensures exact { IfOk result (λ cover. IsExact (value_head types.now) Code id (map (λ p. pattern p.now) patterns.now) (cover_in cover)) }
 {
     if !is_in(table, id) {
         return Ok(Cover::Whole);

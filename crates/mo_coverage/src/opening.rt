@@ -1,6 +1,6 @@
 //! What a pattern opens of the values of which something is known.
 ghost use Rattle.std.specs.Prelude.{◌≡◌, IfOk, Some};
-ghost use Rattle.mo_types.specs.Graph.{head_at};
+ghost use Rattle.pattern_coverage.specs.Followed.{value_head};
 ghost use Rattle.pattern_coverage.specs.Inhabited.{in_table};
 ghost use Rattle.pattern_coverage.specs.Known.{NotUnder, Unknown};
 ghost use Rattle.mo_types.specs.declared.node.Node.TheVariants as node;
@@ -13,7 +13,7 @@ use crate::shape::Shape;
 use crate::tags::{is_label_among, seat_of, tag_left};
 use mo_num::{Bytes, Memory, Sequence};
 use mo_types::{Datum, Field, Node, TypeGraph, TypeId};
-use pattern_coverage::is_in;
+use pattern_coverage::{is_in, value_node};
 use std::alloc::Global;
 
 /// A piece that is not matched, the part of the values that a pattern looks into, and a further piece that is not matched.
@@ -157,9 +157,9 @@ fn open_variant(
 
 /// What the pattern `?p` opens.
 pub(crate) fn open_option(types: &TypeGraph, table: &[bool], id: TypeId, shape: Shape) -> Opened
-    ensures { opened_in result ≡ opened_option (in_table table.now) (head_at types.now id) (known shape) }
+    ensures { opened_in result ≡ opened_option (in_table table.now) (value_head types.now id) (known shape) }
 {
-    match types.get(id) {
+    match value_node(types, id) {
         Some(node) => option_of(table, node, shape),
         None => nothing(shape),
     }
@@ -174,9 +174,9 @@ pub(crate) fn open_tag(
     id: TypeId,
     shape: Shape,
 ) -> Result<Opened, Memory>
-    ensures { IfOk result (λ opened. opened_in opened ≡ opened_tag (in_table table.now) label.now (head_at types.now id) (known shape)) }
+    ensures { IfOk result (λ opened. opened_in opened ≡ opened_tag (in_table table.now) label.now (value_head types.now id) (known shape)) }
 {
-    match types.get(id) {
+    match value_node(types, id) {
         Some(Node::Variant(tags)) => open_variant(alloc, table, label, tags.as_slice(), shape),
         _ => Ok(nothing(shape)),
     }

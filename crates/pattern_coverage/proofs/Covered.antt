@@ -3,13 +3,15 @@ use Rattle.std.proofs.Common.{◌≡◌, List, [], ◌∷◌, length, Bool, true
 use Rattle.std.specs.Prelude.{cond}
 use Rattle.mo_types.specs.declared.node.Node.{Node}
 use Rattle.mo_types.specs.declared.node.TypeId.{TypeId}
-use Rattle.mo_types.specs.Graph.{Slot, head_at}
+use Rattle.mo_types.specs.Graph.{Slot}
 use Rattle.mo_types.specs.Sub.{Each}
 use Rattle.mo_values.specs.Shapes.{Shape}
 use Rattle.subtype_laws.specs.Bounds.{SameBound}
+use Rattle.subtype_laws.specs.Labels.{OwnLabels}
 use Rattle.typed_tree.specs.Patterns.{Pat}
 use Rattle.typed_tree.specs.Types.{AreLawful}
 use Rattle.pattern_coverage.specs.Cover.{Whole, SomeMatches, IsExact, Tells, first_missed, missed, coverage}
+use Rattle.pattern_coverage.specs.Followed.{end_of, value_head}
 use Rattle.pattern_coverage.specs.Inhabited.{HasValues, IsValue}
 use Rattle.pattern_coverage.specs.Known.{Known, Unknown}
 use Rattle.pattern_coverage.specs.Suited.{IsOn}
@@ -21,15 +23,18 @@ use Rattle.pattern_coverage.proofs.Pieces.{Val}
 use Rattle.pattern_coverage.proofs.Seen.{no}
 use Rattle.pattern_coverage.proofs.Witness.{witness}
 
-module _ {F : Type 0} (sample : F) (types : List Slot) (has : TypeId → Bool) (t : TypeId) (ps : List Pat) (lawful : AreLawful types) (tells : Tells (head_at types) has) (on : Each (λ p. IsOn (head_at types) p t) ps) where
+module _ {F : Type 0} (sample : F) (types : List Slot) (has : TypeId → Bool) (t : TypeId) (ps : List Pat) (lawful : AreLawful types) (tells : Tells (value_head types) has) (on : Each (λ p. IsOn (value_head types) p t) ps) where
   abbrev head : TypeId → Node TypeId
-  head = head_at types
+  head = value_head types
 
   bounds : SameBound head
-  bounds = lawful.bounds
+  bounds t u b c v e f = lawful.bounds (end_of types t) (end_of types u) b c v e f
 
-  having : (kinds : List TypeId) → Each (HasValues head) kinds → (t : TypeId) (v : Shape F) → Val head has kinds t v → HasValues head t
-  having kinds contents t v a = type_has head bounds (labels_own types lawful) kinds contents t v a
+  own : (t : TypeId) → OwnLabels (head t)
+  own t = labels_own types lawful (end_of types t)
+
+  pub having : (kinds : List TypeId) → Each (HasValues head) kinds → (t : TypeId) (v : Shape F) → Val head has kinds t v → HasValues head t
+  having kinds contents t v a = type_has head bounds own kinds contents t v a
 
   abbrev store : List TypeId
   store = contents_below has (length types)
@@ -46,7 +51,7 @@ module _ {F : Type 0} (sample : F) (types : List Slot) (has : TypeId → Bool) (
   by_missed h [] e = none_missed h e
   by_missed h (k ∷ ks) e =
       let m : IsMissed F head has tells store (having store (contents_have types has tells (length types))) ps t Unknown k = first_is_missed h k ks e store (contents_have types has tells (length types)) in
-      let w = witness sample head has tells (labels_own types lawful) (labels_differ types lawful) store (content types has tells) (equal_self types lawful) k t m.feasible in (
+      let w = witness sample head has tells own (labels_differ types lawful) store (content types has tells) (equal_self types lawful) k t m.feasible in (
         (w.0, (store, contents_have types has tells (length types), w.1), w.2),
         λ v i d. ((first_is_missed h k ks e i.0 i.1).none v i.2 d).1,
       )

@@ -4,7 +4,7 @@ use Rattle.std.specs.Prelude.{cond}
 use Rattle.mo_types.specs.declared.node.Field.{Field}
 use Rattle.mo_types.specs.declared.node.Node.TheVariants as node
 use Rattle.mo_types.specs.declared.node.TypeId.{TypeId}
-use Rattle.mo_types.specs.Graph.{Slot, node_of_slot, node_or_bottom, head_at}
+use Rattle.mo_types.specs.Graph.{Slot, head_at}
 use Rattle.mo_types.specs.Heads.{tuple_of, object_of, variant_of, variable_of}
 use Rattle.mo_types.specs.Sub.{Each, IsSomething}
 use Rattle.subtype_laws.proofs.Reflexive as reflexivity
@@ -12,7 +12,9 @@ use Rattle.typed_tree.specs.Types.{LabelsDiffer, IsLawfulNode, AreLawful}
 use Rattle.typed_tree.specs.Wants.{Equal}
 use Rattle.typed_tree.proofs.OwnLabels.{labels_own}
 use Rattle.pattern_coverage.specs.Cover.{Tells}
+use Rattle.pattern_coverage.specs.Followed.{end_of, value_head}
 use Rattle.pattern_coverage.specs.Inhabited.{always, HasValues, ByForm, ByParts, ByFields, ByTag, ByBound}
+use Rattle.pattern_coverage.proofs.Ends.{past}
 use Rattle.pattern_coverage.proofs.Seen.{no}
 
 pub type_of : ℕ → TypeId
@@ -24,19 +26,14 @@ contents_below has zero = []
 contents_below has (suc n) = cond (has (record { index = n })) (record { index = n } ∷ contents_below has n) (contents_below has n)
 
 module _ (types : List Slot) (lawful : AreLawful types) where
-  pub labels_differ : (t : TypeId) (fs : List (Field TypeId)) → head_at types t ≡ node.Object fs → LabelsDiffer fs
-  labels_differ t fs e = subst (IsLawfulNode (head_at types)) e (lawful.nodes t).0
+  pub labels_differ : (t : TypeId) (fs : List (Field TypeId)) → value_head types t ≡ node.Object fs → LabelsDiffer fs
+  labels_differ t fs e = subst (IsLawfulNode (head_at types)) e (lawful.nodes (end_of types t)).0
 
-  pub equal_self : (t : TypeId) → Equal (head_at types) t t
-  equal_self t = let r = reflexivity.reflexive (head_at types) t (λ u r. labels_own types lawful u) in (r, r)
+  pub equal_self : (t : TypeId) → Equal (value_head types) t t
+  equal_self t = let r = reflexivity.reflexive (value_head types) t (λ u r. labels_own types lawful (end_of types u)) in (r, r)
 
-nothing_there : (types : List Slot) (i : ℕ) → length types ≤ i → slice_get types i ≡ None
-nothing_there [] i l = refl
-nothing_there (s ∷ types) zero l = absurd (omega (arith, l))
-nothing_there (s ∷ types) (suc i) l = nothing_there types i (omega (arith, l))
-
-module _ (types : List Slot) (has : TypeId → Bool) (tells : Tells (head_at types) has) where
-  bottom_has : (t : TypeId) → head_at types t ≡ node.Bottom → HasValues (head_at types) t → ⊥
+module _ (types : List Slot) (has : TypeId → Bool) (tells : Tells (value_head types) has) where
+  bottom_has : (t : TypeId) → value_head types t ≡ node.Bottom → HasValues (value_head types) t → ⊥
   bottom_has t e (ByForm _ h) = no (sym (ap always e) ∙ h)
   bottom_has t e (ByParts _ ts f h) = subst IsSomething (sym (ap tuple_of f) ∙ ap tuple_of e) tt
   bottom_has t e (ByFields _ fs f h) = subst IsSomething (sym (ap object_of f) ∙ ap object_of e) tt
@@ -52,18 +49,18 @@ module _ (types : List Slot) (has : TypeId → Bool) (tells : Tells (head_at typ
       by (inl h) = inl (omega (arith, h))
       by (inr h) = inr (omega (arith, h))
 
-  in_graph : (t : TypeId) → HasValues (head_at types) t → t.index < length types
+  in_graph : (t : TypeId) → HasValues (value_head types) t → t.index < length types
   in_graph t h = by (less_or t.index (length types))
     where
       by : (t.index < length types) ⊎ (length types ≤ t.index) → t.index < length types
       by (inl l) = l
-      by (inr l) = absurd (bottom_has t (ap (λ o. node_or_bottom (node_of_slot o)) (nothing_there types t.index l)) h)
+      by (inr l) = absurd (bottom_has t (past types t l) h)
 
-  pub contents_have : (n : ℕ) → Each (HasValues (head_at types)) (contents_below has n)
+  pub contents_have : (n : ℕ) → Each (HasValues (value_head types)) (contents_below has n)
   contents_have zero = tt
   contents_have (suc n) = by (has (record { index = n })) refl (contents_have n)
     where
-      by : (b : Bool) → has (record { index = n }) ≡ b → Each (HasValues (head_at types)) (contents_below has n) → Each (HasValues (head_at types)) (cond b (record { index = n } ∷ contents_below has n) (contents_below has n))
+      by : (b : Bool) → has (record { index = n }) ≡ b → Each (HasValues (value_head types)) (contents_below has n) → Each (HasValues (value_head types)) (cond b (record { index = n } ∷ contents_below has n) (contents_below has n))
       by true e h = ((tells (record { index = n })).0 e, h)
       by false e h = h
 
@@ -84,5 +81,5 @@ module _ (types : List Slot) (has : TypeId → Bool) (tells : Tells (head_at typ
       by false e (inl s) k = absurd (no (sym e ∙ subst (λ n. has (record { index = n }) ≡ true) s h))
       by false e (inr s) k = k s
 
-  pub content : (t : TypeId) → HasValues (head_at types) t → (at : ℕ) × (slice_get (contents_below has (length types)) at ≡ Some t)
+  pub content : (t : TypeId) → HasValues (value_head types) t → (at : ℕ) × (slice_get (contents_below has (length types)) at ≡ Some t)
   content t h = content_at t (length types) (in_graph t h) ((tells t).1 h)

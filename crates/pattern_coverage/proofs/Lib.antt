@@ -11,6 +11,7 @@ pub mod Tuple
 pub mod Object
 pub mod Cuts
 pub mod Witness
+pub mod Ends
 pub mod Lawful
 pub mod Covered
 pub mod Samples

@@ -3,13 +3,12 @@ use Rattle.std.proofs.Common.{◌≡◌, ◌⊎◌, inl, inr, ℕ, zero, suc, �
 use Rattle.std.specs.Prelude.{slice_set, ◌||◌, nat_eq, if◌then◌else◌}
 use Rattle.std.specs.Cmp.Lexicographic.{pointwise}
 use Rattle.std.proofs.lemmas.Bool.{and_from, or_left, or_right}
-use Rattle.std.proofs.lemmas.Option.{slice_get_past}
 use Rattle.std.proofs.Math.ListN.{replicate}
 use Rattle.mo_types.specs.declared.node.Field.{Field}
 use Rattle.mo_types.specs.declared.node.Node.{Node}
 use Rattle.mo_types.specs.declared.node.Node.TheVariants as node
 use Rattle.mo_types.specs.declared.node.TypeId.{TypeId}
-use Rattle.mo_types.specs.Graph.{Slot, head_at, node_of_slot, node_or_bottom}
+use Rattle.mo_types.specs.Graph.{Slot}
 use Rattle.mo_types.specs.Sub.{Each, find}
 use Rattle.mo_types.specs.Values.{types_of}
 use Rattle.mo_values.specs.Shapes.{Bytes}
@@ -18,6 +17,8 @@ use Rattle.pattern_coverage.specs.Cover.{Tells}
 use Rattle.typed_tree.specs.Types.{AreLawful}
 use Rattle.pattern_coverage.specs.Inhabited.{always, HasValues, ByForm, ByParts, ByFields, ByTag, ByBound, EachHasValues, NoType, AType, all_have, some_has, by_parts, IsSound, IsClosed, flag_there, in_table, left_out, type_at, IsNext, AreDone}
 use Rattle.typed_tree.proofs.OwnLabels.{labels_own}
+use Rattle.pattern_coverage.specs.Followed.{end_of, value_head}
+use Rattle.pattern_coverage.proofs.Ends.{past}
 use Rattle.pattern_coverage.proofs.Same.{both}
 use Rattle.pattern_coverage.proofs.Seen.{no}
 
@@ -105,7 +106,7 @@ none_there (suc n) (suc j) e = none_there n j e
 
 module _ (types : List Slot) where
   abbrev head : TypeId → Node TypeId
-  head = head_at types
+  head = value_head types
 
   pub begins : (n : ℕ) → IsSound head (in_table (replicate n false))
   begins n t e = absurd (none_there n t.index e)
@@ -117,7 +118,7 @@ module _ (types : List Slot) where
   keeps table i lawful sound h t e = by (set_there table i t.index e)
     where
       by : (t.index ≡ i) ⊎ (flag_there (slice_get table t.index) ≡ true) → HasValues head t
-      by (inl s) = rules head (labels_own types lawful) (in_table table) sound t (subst (λ i. by_parts (in_table table) (head (type_at i)) ≡ true) (sym s) h.1)
+      by (inl s) = rules head (λ u. labels_own types lawful (end_of types u)) (in_table table) sound t (subst (λ i. by_parts (in_table table) (head (type_at i)) ≡ true) (sym s) h.1)
       by (inr s) = sound t s
 
   less_or : (j r : ℕ) → (j < r) ⊎ (r ≤ j)
@@ -137,4 +138,4 @@ module _ (types : List Slot) where
         where
           by : (t.index < length table) ⊎ (length table ≤ t.index) → in_table table t ≡ true
           by (inl h) = d t.index h e
-          by (inr h) = absurd (no (sym (ap (λ o. by_parts (in_table table) (node_or_bottom (node_of_slot o))) (slice_get_past types t.index (omega (arith, h, l)))) ∙ e))
+          by (inr h) = absurd (no (sym (ap (by_parts (in_table table)) (past types t (omega (arith, h, l)))) ∙ e))

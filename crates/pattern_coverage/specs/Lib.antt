@@ -1,4 +1,5 @@
 pub mod Inhabited
+pub mod Followed
 pub mod Known
 pub mod Leaves
 pub mod Suited

@@ -71,73 +71,8 @@ module _ {A : Type 0} (head : A → Node A) where
     FieldsOn (l ∷ ls) NoPat fs = ⊥
     FieldsOn (l ∷ ls) (APat p ps) fs = AtSome (find l fs) (λ f. (f.mutable ≡ false) × IsOn p f.part) × FieldsOn ls ps fs
 
--- ---- literals of a switch
-
--- numbers, characters, texts, blobs, truth values and null
-abbrev pub IsPlainLiteral : Datum → Type 0
-IsPlainLiteral (part.Actor p) = ⊥
-IsPlainLiteral (part.Principal p) = ⊥
-IsPlainLiteral (part.Method p m) = ⊥
-IsPlainLiteral c = Unit {0}
-
-abbrev mutual
-  -- no actor is a literal of the pattern
-  pub IsPlain : Pat → Type 0
-  IsPlain Wildcard = Unit {0}
-  IsPlain Bind = Unit {0}
-  IsPlain (Constant c) = IsPlainLiteral c
-  IsPlain (Present? p) = IsPlain p
-  IsPlain (Tagged l p) = IsPlain p
-  IsPlain (Parts ps) = ArePlain ps
-  IsPlain (Fields ls ps) = ArePlain ps
-  IsPlain (Either p q) = IsPlain p × IsPlain q
-
-  pub ArePlain : Pats → Type 0
-  ArePlain NoPat = Unit {0}
-  ArePlain (APat p ps) = IsPlain p × ArePlain ps
-
 -- ---- type parameters
 
-module _ {A : Type 0} where
-  abbrev pub IsNoParameter : Node A → Type 0
-  IsNoParameter (node.Variable v b) = ⊥
-  IsNoParameter _ = Unit {0}
-
-  abbrev pub InOption : (A → Type 0) → Node A → Type 0
-  InOption P (node.Opt u) = P u
-  InOption P x = Unit {0}
-
-  abbrev pub InVariant : (A → Type 0) → Bytes → Node A → Type 0
-  InVariant P l (node.Variant fs) = OnPart P (find l fs)
-  InVariant P l x = Unit {0}
-
-  abbrev pub InTuple : (List A → Type 0) → Node A → Type 0
-  InTuple P (node.Tuple ts) = P ts
-  InTuple P x = Unit {0}
-
-  abbrev pub InObject : (List (Field A) → Type 0) → Node A → Type 0
-  InObject P (node.Object fs) = P fs
-  InObject P x = Unit {0}
-
-module _ {A : Type 0} (head : A → Node A) where
-  abbrev mutual
-    -- the pattern looks into no part whose type is a type parameter
-    pub AvoidsParameters : Pat → A → Type 0
-    AvoidsParameters Wildcard t = Unit {0}
-    AvoidsParameters Bind t = Unit {0}
-    AvoidsParameters (Constant c) t = IsNoParameter (head t)
-    AvoidsParameters (Present? p) t = IsNoParameter (head t) × InOption (λ u. AvoidsParameters p u) (head t)
-    AvoidsParameters (Tagged l p) t = IsNoParameter (head t) × InVariant (λ u. AvoidsParameters p u) l (head t)
-    AvoidsParameters (Parts ps) t = IsNoParameter (head t) × InTuple (λ ts. AllAvoid ps ts) (head t)
-    AvoidsParameters (Fields ls ps) t = IsNoParameter (head t) × InObject (λ fs. FieldsAvoid ls ps fs) (head t)
-    AvoidsParameters (Either p q) t = AvoidsParameters p t × AvoidsParameters q t
-
-    pub AllAvoid : Pats → List A → Type 0
-    AllAvoid NoPat ts = Unit {0}
-    AllAvoid (APat p ps) [] = Unit {0}
-    AllAvoid (APat p ps) (t ∷ ts) = AvoidsParameters p t × AllAvoid ps ts
-
-    pub FieldsAvoid : List Bytes → Pats → List (Field A) → Type 0
-    FieldsAvoid [] ps fs = Unit {0}
-    FieldsAvoid (l ∷ ls) NoPat fs = Unit {0}
-    FieldsAvoid (l ∷ ls) (APat p ps) fs = OnPart (λ u. AvoidsParameters p u) (find l fs) × FieldsAvoid ls ps fs
+abbrev pub IsNoParameter : {A : Type 0} → Node A → Type 0
+IsNoParameter (node.Variable v b) = ⊥
+IsNoParameter _ = Unit {0}

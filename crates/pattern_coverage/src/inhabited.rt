@@ -1,11 +1,12 @@
 //! Which types of a graph have values.
 ghost use Rattle.std.specs.Prelude.{◌≡◌, IfOk, None, Option, Some, length, ℕ};
-ghost use Rattle.mo_types.specs.Graph.{head_at};
 ghost use Rattle.mo_types.specs.Values.{types_of};
 ghost use Rattle.typed_tree.specs.Types.{AreLawful};
 ghost use Rattle.pattern_coverage.specs.Cover.{Tells};
+ghost use Rattle.pattern_coverage.specs.Followed.{value_head};
 ghost use Rattle.pattern_coverage.specs.Inhabited.{AreDone, IsNext, all_have, by_parts, in_table, some_has, type_at};
 
+use crate::followed::value_node_at;
 use mo_num::{Memory, Sequence};
 use mo_types::{Field, Node, TypeGraph, TypeId};
 use std::alloc::Global;
@@ -69,9 +70,9 @@ fn has_by_parts(table: &[bool], node: &Node) -> bool
 
 /// The same of the type with a number.
 fn is_found(types: &TypeGraph, table: &[bool], index: usize) -> bool
-    ensures { result ≡ by_parts (in_table table.now) (head_at types.now (type_at index)) }
+    ensures { result ≡ by_parts (in_table table.now) (value_head types.now (type_at index)) }
 {
-    match types.get_index(index) {
+    match value_node_at(types, index) {
         Some(node) => has_by_parts(table, node),
         None => false,
     }
@@ -79,8 +80,8 @@ fn is_found(types: &TypeGraph, table: &[bool], index: usize) -> bool
 
 /// The first number that is not in the table, of a type that has values by those that are.
 fn next_type(types: &TypeGraph, table: &[bool]) -> Option<usize>
-    ensures found { (i : ℕ) → result ≡ Some i → IsNext (head_at types.now) table.now i }
-    ensures none { result ≡ None → AreDone (head_at types.now) table.now (length table.now) }
+    ensures found { (i : ℕ) → result ≡ Some i → IsNext (value_head types.now) table.now i }
+    ensures none { result ≡ None → AreDone (value_head types.now) table.now (length table.now) }
 {
     for index in 0..table.len() {
         if !table[index] && is_found(types, table, index) {
@@ -93,7 +94,7 @@ fn next_type(types: &TypeGraph, table: &[bool]) -> Option<usize>
 /// Which types of a graph have values.
 pub fn types_with_values(alloc: Global, types: &TypeGraph) -> Result<Sequence<bool>, Memory>
     requires { AreLawful types.now }
-    ensures { IfOk result (λ table. Tells (head_at types.now) (in_table table)) }
+    ensures { IfOk result (λ table. Tells (value_head types.now) (in_table table)) }
 {
     let mut table = vec![in alloc; false; types.len()]?;
     while let Some(index) = next_type(types, table.as_slice()) {

@@ -13,7 +13,7 @@ loop-typed-init c = λ i f g m.
 
 pub loop-typed-preserved : goal.loop-typed-preserved
 loop-typed-preserved c = λ i f g m.
-    elim (c.mark.ensures i f g m) as (λ _. IsEasyUnder (map pattern c.args.patterns.now) f.label) [
+    elim (c.mark.ensures i f g m) as (λ _. IsEasyUnder (map (λ p. pattern p.now) c.args.patterns.now) f.label) [
       | inl h ↦ c.loop-typed.invariant i f g h
-      | inr h ↦ (c.loop-typed.typed-index, h.0, at_index c.args.patterns.now c.loop-typed.typed-index c.typed-item.result c.loop-typed-test.true c.typed-item.is ∙ ap Some h.1, h.2)
+      | inr h ↦ (c.loop-typed.typed-index, h.0, at_index (λ p. pattern p.now) c.args.patterns.now c.loop-typed.typed-index c.typed-item.result c.loop-typed-test.true c.typed-item.is ∙ ap Some h.1, h.2)
     ]

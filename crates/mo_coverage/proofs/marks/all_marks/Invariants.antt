@@ -4,4 +4,4 @@ use Rattle.mo_coverage.specs.Easy.{AreMarked}
 use Rattle.mo_coverage.proofs.marks.all_marks.Given as goal
 
 abbrev pub invariant-loop-typed : goal.invariant-loop-typed
-invariant-loop-typed l = AreMarked l.tags l.marks.items (map pattern l.patterns)
+invariant-loop-typed l = AreMarked l.tags l.marks.items (map (λ p. pattern p.now) l.patterns)

@@ -1,0 +1,7 @@
+//! The switches of a typed program that miss a value of their type.
+#![tactic(auto)]
+
+mod uncovered;
+mod walk;
+
+pub use uncovered::{Uncovered, uncovered_switches};
