@@ -11,8 +11,9 @@ pub const HELP: &str =
       compiles the actor in the file SRC and writes its module to OUT
       for example: mo build examples/answer.mo answer.wasm
   mo check SRC
-      says whether the actor in the file SRC is accepted: nothing, or the first fault with
-      its line and column
+      says whether the actor in the file SRC is accepted, or prints the first fault with its
+      line and column; of an accepted one it prints a line uncovered LINE:COLUMN for each
+      switch that misses a value
       for example: mo check examples/ledger.mo
   mo play [options] SCRIPT MODULE..
       plays the script in the file SCRIPT on the modules in the files MODULE.., and prints

@@ -1,5 +1,6 @@
 -- The top call ends as it was asked to.
 use Rattle.std.proofs.Common.{◌≡◌, ℕ, zero, suc, List, [], ◌∷◌, length, drop, slice_get, Option, Some, None, IfSome, refl, sym, ap, subst, ◌∙◌, inl, inr, ◌⊎◌}
+use Rattle.std.specs.Io.KnownBytes.{Appends}
 use Rattle.std.specs.List.{AllByRecursion}
 use Rattle.outer.specs.Causes.{Rose}
 use Rattle.outer.specs.Names.{NameMap}
@@ -22,6 +23,7 @@ use Rattle.mo_command.specs.Built.{IsAccepted, Built}
 use Rattle.mo_command.specs.Held.{Outside, HasBytes, Holds}
 use Rattle.mo_command.specs.Replays.{IsGood, IsScript, IsBadScript, IsTaken, IsNotYet}
 use Rattle.mo_command.specs.Checked.{IsFaultAt, IsTyped}
+use Rattle.mo_command.specs.Uncovered.{IsChecked}
 use Rattle.mo_command.specs.Ends.{BuildEnds, CheckEnds, Stops, IsMissing, ReplayEnds, Ends, AreGood, AsksAll, Asks}
 use Rattle.mo_command.proofs.Texts.{spelled_in}
 use Rattle.mo_command.proofs.Ending.{replay_memory}
@@ -40,13 +42,26 @@ build_memory src out old new (BadModule number fault) e n = absurd e
 build_memory src out old new (NoFile place) e n = inl e.1
 build_memory src out old new (NotAccepted fault line column) e n = absurd e
 
+check_memory : (src : List ℕ) (old new : Outside) (status : Status) → CheckEnds src old new status → (status ≡ Done → ⊥) → CheckEnds src old new NoMemory
+check_memory src old new Done e n = absurd (n refl)
+check_memory src old new (Refused source) e n = absurd e
+check_memory src old new Usage e n = absurd e
+check_memory src old new ReadFault e n = inl e.0
+check_memory src old new WriteFault e n = inr e.0
+check_memory src old new NoMemory e n = e
+check_memory src old new (BadScript fault) e n = absurd e
+check_memory src old new (NotYet line) e n = absurd e
+check_memory src old new (BadModule number fault) e n = absurd e
+check_memory src old new (NoFile place) e n = inl e.0
+check_memory src old new (NotAccepted fault line column) e n = inl e.0
+
 ends_memory : (words : List (List ℕ)) (old new : Outside) (status : Status) → Ends words old new status → (status ≡ Done → ⊥) → Ends words old new NoMemory
 ends_memory words old new status (inl e) n = inl (record { src = e.src; out = e.out; is = e.is; ends = build_memory e.src e.out old new status e.ends n; no_text = e.no_text })
 ends_memory words old new status (inr (inl e)) n =
     inr (inl (record { options = e.options; script = e.script; files = e.files; is = e.is; ends = replay_memory Modules e.options e.script e.files old new status e.ends n; no_name = e.no_name }))
 ends_memory words old new status (inr (inr (inl e))) n =
     inr (inr (inl (record { options = e.options; script = e.script; files = e.files; is = e.is; ends = replay_memory Sources e.options e.script e.files old new status e.ends n; no_name = e.no_name })))
-ends_memory words old new status (inr (inr (inr (inl e)))) n = inr (inr (inr (inl (record { src = e.src; is = e.is; ends = tt; no_name = e.no_name; no_text = e.no_text }))))
+ends_memory words old new status (inr (inr (inr (inl e)))) n = inr (inr (inr (inl (record { src = e.src; is = e.is; ends = check_memory e.src old new status e.ends n; no_name = e.no_name }))))
 ends_memory words old new status (inr (inr (inr (inr e)))) n = inr (inr (inr (inr (record { is = e.is; same = e.same; status_is = inr refl }))))
 
 pub ends_told : (words : List (List ℕ)) (old new : Outside) (status told : Status) → Ends words old new status → (told ≡ status) ⊎ ((status ≡ Done → ⊥) × (told ≡ NoMemory)) → Ends words old new told
@@ -113,35 +128,43 @@ build_done src out old new held (BadModule number fault) told e h r w = absurd e
 build_done src out old new held (NoFile place) told e h r w = absurd (there_is held src IsAccepted h (subst (λ n. IfSome n (λ held. held src ≡ None)) told e.2))
 build_done src out old new held (NotAccepted fault line column) told e h r w = absurd e
 
--- Where the source is typed and no read failed.
-check_done : (src : List ℕ) (old new : Outside) (held : NameMap) (status : Status) → old.names ≡ Some held → CheckEnds src old new status → HasBytes held src IsTyped → (Rose old.reads new.reads → ⊥)
-    → (status ≡ Done) ⊎ (status ≡ NoMemory)
-check_done src old new held Done told e h r = inl refl
-check_done src old new held (Refused source) told e h r = absurd e
-check_done src old new held Usage told e h r = absurd e
-check_done src old new held ReadFault told e h r = absurd (r e)
-check_done src old new held WriteFault told e h r = absurd e
-check_done src old new held NoMemory told e h r = inr refl
-check_done src old new held (BadScript fault) told e h r = absurd e
-check_done src old new held (NotYet line) told e h r = absurd e
-check_done src old new held (BadModule number fault) told e h r = absurd e
-check_done src old new held (NoFile place) told e h r = absurd (there_is held src IsTyped h (subst (λ n. IfSome n (λ held. held src ≡ None)) told e.1))
-check_done src old new held (NotAccepted fault line column) told e h r =
-    absurd (not_typed held src fault line column h (subst (λ n. Holds n src (IsFaultAt fault line column)) told e))
+-- A source whose lines were put is typed.
+pub shown_typed : (src : List ℕ) (old new : Outside) (held : NameMap) → old.names ≡ Some held → CheckEnds src old new Done → HasBytes held src IsTyped
+shown_typed src old new held told e =
+    let a = subst (λ n. IfSome n (λ held. (text : List ℕ) × HasBytes held src (λ source. IsChecked source text) × Appends old.out new.out text)) told e in
+    let b = a.1 in
+    let c = b.2 in
+    let d = c.1 in (b.0, b.1, (d.made, d.accepted, d.typed))
 
-check_missing : (src : List ℕ) (old new : Outside) (held : NameMap) (status : Status) → old.names ≡ Some held → CheckEnds src old new status → held src ≡ None → (Rose old.reads new.reads → ⊥)
+-- Where the source is typed and no read and no put failed.
+check_done : (src : List ℕ) (old new : Outside) (held : NameMap) (status : Status) → old.names ≡ Some held → CheckEnds src old new status → HasBytes held src IsTyped → (Rose old.reads new.reads → ⊥) → (Rose old.puts new.puts → ⊥)
+    → (status ≡ Done) ⊎ (status ≡ NoMemory)
+check_done src old new held Done told e h r p = inl refl
+check_done src old new held (Refused source) told e h r p = absurd e
+check_done src old new held Usage told e h r p = absurd e
+check_done src old new held ReadFault told e h r p = absurd (r e.1)
+check_done src old new held WriteFault told e h r p = absurd (p e.1)
+check_done src old new held NoMemory told e h r p = inr refl
+check_done src old new held (BadScript fault) told e h r p = absurd e
+check_done src old new held (NotYet line) told e h r p = absurd e
+check_done src old new held (BadModule number fault) told e h r p = absurd e
+check_done src old new held (NoFile place) told e h r p = absurd (there_is held src IsTyped h (subst (λ n. IfSome n (λ held. held src ≡ None)) told e.2))
+check_done src old new held (NotAccepted fault line column) told e h r p =
+    absurd (not_typed held src fault line column h (subst (λ n. Holds n src (IsFaultAt fault line column)) told e.1))
+
+check_missing : (src : List ℕ) (old new : Outside) (held : NameMap) (status : Status) → old.names ≡ Some held → CheckEnds src old new status → held src ≡ None → (Rose old.reads new.reads → ⊥) → (Rose old.puts new.puts → ⊥)
     → (status ≡ NoFile 0) ⊎ (status ≡ NoMemory)
-check_missing src old new held Done told e h r = absurd (there_is held src IsTyped (subst (λ n. Holds n src IsTyped) told e) h)
-check_missing src old new held (Refused source) told e h r = absurd e
-check_missing src old new held Usage told e h r = absurd e
-check_missing src old new held ReadFault told e h r = absurd (r e)
-check_missing src old new held WriteFault told e h r = absurd e
-check_missing src old new held NoMemory told e h r = inr refl
-check_missing src old new held (BadScript fault) told e h r = absurd e
-check_missing src old new held (NotYet line) told e h r = absurd e
-check_missing src old new held (BadModule number fault) told e h r = absurd e
-check_missing src old new held (NoFile place) told e h r = inl (ap NoFile e.0)
-check_missing src old new held (NotAccepted fault line column) told e h r = absurd (there_is held src (IsFaultAt fault line column) (subst (λ n. Holds n src (IsFaultAt fault line column)) told e) h)
+check_missing src old new held Done told e h r p = absurd (there_is held src IsTyped (shown_typed src old new held told e) h)
+check_missing src old new held (Refused source) told e h r p = absurd e
+check_missing src old new held Usage told e h r p = absurd e
+check_missing src old new held ReadFault told e h r p = absurd (r e.1)
+check_missing src old new held WriteFault told e h r p = absurd (p e.1)
+check_missing src old new held NoMemory told e h r p = inr refl
+check_missing src old new held (BadScript fault) told e h r p = absurd e
+check_missing src old new held (NotYet line) told e h r p = absurd e
+check_missing src old new held (BadModule number fault) told e h r p = absurd e
+check_missing src old new held (NoFile place) told e h r p = inl (ap NoFile e.1)
+check_missing src old new held (NotAccepted fault line column) told e h r p = absurd (there_is held src (IsFaultAt fault line column) (subst (λ n. Holds n src (IsFaultAt fault line column)) told e.1) h)
 
 -- Where the script and all files are good and no fault rose.
 no_missing : (input : Input) (held : NameMap) (script : List ℕ) (files : List (List ℕ)) (place : ℕ) → AreGood input held script files → IsMissing input held script files place → ⊥
@@ -221,7 +244,7 @@ told_done words old new held status told (inr (inr (inr (inl e)))) (inl a) r w p
 told_done words old new held status told (inr (inr (inr (inl e)))) (inr (inl a)) r w p = absurd (no_check_play words a.2 a.0 e.src a.1 e.is a.3)
 told_done words old new held status told (inr (inr (inr (inl e)))) (inr (inr (inl a))) r w p = absurd (no_check_run words a.2 a.0 e.src a.1 e.is a.3)
 told_done words old new held status told (inr (inr (inr (inl e)))) (inr (inr (inr a))) r w p =
-    check_done e.src old new held status told e.ends (subst (λ (s : List ℕ). HasBytes held s IsTyped) (one_check words a.0 e.src a.1 e.is) a.2) r
+    check_done e.src old new held status told e.ends (subst (λ (s : List ℕ). HasBytes held s IsTyped) (one_check words a.0 e.src a.1 e.is) a.2) r p
 told_done words old new held status told (inr (inr (inr (inr e)))) a r w p = absurd (no_form words held e.is a)
 
 -- What the source of a build asks for else.
@@ -297,7 +320,7 @@ told_asked words old new held status (BadModule number fault) told e a r w p = a
 told_asked words old new held status (NoFile place) told e (zero_, inl a) r w p =
     let b = build_case words old new a.0 a.1 status a.2 e in subst (λ k. (status ≡ NoFile k) ⊎ (status ≡ NoMemory)) (sym zero_) (build_missing a.0 b.0 old new held status told b.1 a.3 r w)
 told_asked words old new held status (NoFile place) told e (zero_, inr a) r w p =
-    subst (λ k. (status ≡ NoFile k) ⊎ (status ≡ NoMemory)) (sym zero_) (check_missing a.0 old new held status told (check_case words old new a.0 status a.1 e) a.2 r)
+    subst (λ k. (status ≡ NoFile k) ⊎ (status ≡ NoMemory)) (sym zero_) (check_missing a.0 old new held status told (check_case words old new a.0 status a.1 e) a.2 r p)
 told_asked words old new held status (NotAccepted fault line column) told e a r w p = absurd a
 
 pub ends_as_asked : (words : List (List ℕ)) (names : Option NameMap) (old new : Outside) (status : Status) → old.names ≡ names → Ends words old new status

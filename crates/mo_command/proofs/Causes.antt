@@ -21,7 +21,7 @@ use Rattle.mo_command.specs.Held.{Outside, HasBytes, Holds, FirstFile}
 use Rattle.mo_command.specs.Replays.{IsGood, IsBadScript, IsNotYet, Allows, HasScript}
 use Rattle.mo_command.specs.Checked.{IsFaultAt, IsTyped}
 use Rattle.mo_command.specs.Ends.{BuildEnds, CheckEnds, Stops, IsMissing, ReplayEnds}
-use Rattle.mo_command.proofs.Asked.{built_accepted}
+use Rattle.mo_command.proofs.Asked.{built_accepted, shown_typed}
 
 -- Of the files that are read in turn.
 pub data FilesCause (input : Input) (held : NameMap) (files : List (List ℕ)) (status : Status) : Type 0 where
@@ -105,15 +105,15 @@ source_cause held src out old new (BadModule number fault) told r w e = absurd e
 source_cause held src out old new (NoFile place) told r w e = Lost (subst (λ n. IfSome n (λ held. held src ≡ None)) told e.2) (ap NoFile e.0)
 source_cause held src out old new (NotAccepted fault line column) told r w e = absurd e
 
-pub check_cause : (held : NameMap) (src : List ℕ) (old new : Outside) (status : Status) → old.names ≡ Some held → (Rose old.reads new.reads → ⊥) → CheckEnds src old new status → CheckCause held src status
-check_cause held src old new Done told r e = Typed (subst (λ n. Holds n src IsTyped) told e) refl
-check_cause held src old new (Refused source) told r e = absurd e
-check_cause held src old new Usage told r e = absurd e
-check_cause held src old new ReadFault told r e = absurd (r e)
-check_cause held src old new WriteFault told r e = absurd e
-check_cause held src old new NoMemory told r e = Unchecked refl
-check_cause held src old new (BadScript fault) told r e = absurd e
-check_cause held src old new (NotYet line) told r e = absurd e
-check_cause held src old new (BadModule number fault) told r e = absurd e
-check_cause held src old new (NoFile place) told r e = NoText (subst (λ n. IfSome n (λ held. held src ≡ None)) told e.1) (ap NoFile e.0)
-check_cause held src old new (NotAccepted fault line column) told r e = Faulty fault line column (subst (λ n. Holds n src (IsFaultAt fault line column)) told e) refl
+pub check_cause : (held : NameMap) (src : List ℕ) (old new : Outside) (status : Status) → old.names ≡ Some held → (Rose old.reads new.reads → ⊥) → (Rose old.puts new.puts → ⊥) → CheckEnds src old new status → CheckCause held src status
+check_cause held src old new Done told r p e = Typed (shown_typed src old new held told e) refl
+check_cause held src old new (Refused source) told r p e = absurd e
+check_cause held src old new Usage told r p e = absurd e
+check_cause held src old new ReadFault told r p e = absurd (r e.1)
+check_cause held src old new WriteFault told r p e = absurd (p e.1)
+check_cause held src old new NoMemory told r p e = Unchecked refl
+check_cause held src old new (BadScript fault) told r p e = absurd e
+check_cause held src old new (NotYet line) told r p e = absurd e
+check_cause held src old new (BadModule number fault) told r p e = absurd e
+check_cause held src old new (NoFile place) told r p e = NoText (subst (λ n. IfSome n (λ held. held src ≡ None)) told e.2) (ap NoFile e.1)
+check_cause held src old new (NotAccepted fault line column) told r p e = Faulty fault line column (subst (λ n. Holds n src (IsFaultAt fault line column)) told e.1) refl

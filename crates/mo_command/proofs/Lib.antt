@@ -8,3 +8,5 @@ pub mod Causes
 pub mod OneStatus
 pub mod Answered
 pub mod Checks
+pub mod Puts
+pub mod Shown

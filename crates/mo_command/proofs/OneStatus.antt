@@ -224,8 +224,8 @@ module _ (words : List (List ℕ)) (held : NameMap) (s t : Status) (a : EndsUnfa
 
   checks : CheckCase words a.old a.new s → CheckCase words b.old b.new t → Same s t
   checks e d =
-      check_one held d.src s t (subst (λ (src : List ℕ). CheckCause held src s) (one_check words e.src d.src e.is d.is) (check_cause held e.src a.old a.new s a.told a.reads e.ends))
-      (check_cause held d.src b.old b.new t b.told b.reads d.ends)
+      check_one held d.src s t (subst (λ (src : List ℕ). CheckCause held src s) (one_check words e.src d.src e.is d.is) (check_cause held e.src a.old a.new s a.told a.reads a.puts e.ends))
+      (check_cause held d.src b.old b.new t b.told b.reads b.puts d.ends)
 
   by_form : Ends words a.old a.new s → Ends words b.old b.new t → Same s t
   by_form (inl e) (inl d) = builds e d

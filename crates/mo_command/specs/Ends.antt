@@ -14,6 +14,7 @@ use Rattle.mo_command.specs.declared.status.Input.{Input}
 use Rattle.mo_command.specs.declared.status.Input.TheVariants.{Modules, Sources}
 use Rattle.mo_command.specs.Built.{IsAccepted, Built}
 use Rattle.mo_command.specs.Checked.{IsFaultAt, IsTyped}
+use Rattle.mo_command.specs.Uncovered.{IsChecked}
 use Rattle.mo_command.specs.Held.{Outside, HasBytes, Holds, FirstFile}
 use Rattle.mo_command.specs.Replays.{IsGood, IsBadScript, IsNotYet, Allows, HasScript}
 
@@ -33,19 +34,23 @@ BuildEnds src out old new (BadModule number fault) = ⊥
 BuildEnds src out old new (NoFile place) = (place ≡ 0) × (new.names ≡ old.names) × IfSome old.names (λ held. held src ≡ None)
 BuildEnds src out old new (NotAccepted fault line column) = ⊥
 
--- What makes a check of SRC end so.
+-- A prefix of the lines of SRC was put.
+abbrev pub CheckBegins : List ℕ → Outside → Outside → Type 0
+CheckBegins src old new = IfSome old.names (λ held. (text : List ℕ) × HasBytes held src (λ source. IsChecked source text) × AppendsPrefix old.out new.out text)
+
+-- What makes a check of SRC end so. Where all is done, the source is accepted, and its lines were put.
 abbrev pub CheckEnds : List ℕ → Outside → Outside → Status → Type 0
-CheckEnds src old new Done = Holds old.names src IsTyped
+CheckEnds src old new Done = IfSome old.names (λ held. (text : List ℕ) × HasBytes held src (λ source. IsChecked source text) × Appends old.out new.out text)
 CheckEnds src old new (Refused source) = ⊥
 CheckEnds src old new Usage = ⊥
-CheckEnds src old new ReadFault = Rose old.reads new.reads
-CheckEnds src old new WriteFault = ⊥
-CheckEnds src old new NoMemory = Unit {0}
+CheckEnds src old new ReadFault = (new.out ≡ old.out) × Rose old.reads new.reads
+CheckEnds src old new WriteFault = CheckBegins src old new × Rose old.puts new.puts
+CheckEnds src old new NoMemory = (new.out ≡ old.out) ⊎ CheckBegins src old new
 CheckEnds src old new (BadScript fault) = ⊥
 CheckEnds src old new (NotYet line) = ⊥
 CheckEnds src old new (BadModule number fault) = ⊥
-CheckEnds src old new (NoFile place) = (place ≡ 0) × IfSome old.names (λ held. held src ≡ None)
-CheckEnds src old new (NotAccepted fault line column) = Holds old.names src (IsFaultAt fault line column)
+CheckEnds src old new (NoFile place) = (new.out ≡ old.out) × (place ≡ 0) × IfSome old.names (λ held. held src ≡ None)
+CheckEnds src old new (NotAccepted fault line column) = (new.out ≡ old.out) × Holds old.names src (IsFaultAt fault line column)
 
 -- The script was read, and this file is the first that is not good, and is so.
 abbrev pub Stops : Input → NameMap → List ℕ → List (List ℕ) → ℕ → (List ℕ → Type 0) → Type 0
@@ -90,7 +95,6 @@ pub record CheckCase (words : List (List ℕ)) (old new : Outside) (status : Sta
   pub is : IsCheck words src
   pub ends : CheckEnds src old new status
   pub no_name : new.names ≡ old.names
-  pub no_text : new.out ≡ old.out
 
 pub record PlayCase (words : List (List ℕ)) (old new : Outside) (status : Status) : Type 0 where
   pub options : Options

@@ -7,4 +7,5 @@ pub mod Codes
 pub mod Stopped
 pub mod OneStatus
 pub mod Answered
+pub mod Uncovered
 pub mod Checked

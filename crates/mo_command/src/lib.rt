@@ -8,6 +8,7 @@ mod line;
 mod replay;
 mod run;
 mod status;
+mod uncovered;
 
 pub use compile::CompileFault;
 pub use laws::{built_modules_answer, one_status_law, runs_are_answered};

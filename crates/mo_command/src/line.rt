@@ -80,8 +80,13 @@ fn rule_name(rule: Rule) -> &'static [u8]
     }
 }
 
-// A number with text before and behind it.
-fn numbered(alloc: Global, front: &[u8], number: u64, back: &[u8]) -> Result<Bytes, Memory>
+/// A number with text before and behind it.
+pub(crate) fn numbered(
+    alloc: Global,
+    front: &[u8],
+    number: u64,
+    back: &[u8],
+) -> Result<Bytes, Memory>
     ensures { IfOk result (Numbered front.now number back.now) }
 {
     let mut line = Bytes::from_slice(alloc, front)?;

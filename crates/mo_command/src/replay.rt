@@ -228,7 +228,8 @@ fn limits(options: Options) -> Limits
     }
 }
 
-fn end_of(put: Result<(), OutsideFault>) -> Status
+/// The status after lines were put.
+pub(crate) fn end_of(put: Result<(), OutsideFault>) -> Status
     ensures { result ≡ put_status put }
 {
     match put {

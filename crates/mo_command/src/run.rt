@@ -49,7 +49,7 @@ fn work<F: Files, O: Sink>(alloc: Global, words: &[String], files: &mut F, out: 
                 out: module,
             },
         ) => build(alloc, source, module, files),
-        Some(Command::Check { source }) => check(alloc, source, files),
+        Some(Command::Check { source }) => check(alloc, source, files, out),
         Some(Command::Play(order)) => replay(alloc, Input::Modules, order, files, out),
         Some(Command::Run(order)) => replay(alloc, Input::Sources, order, files, out),
     }
@@ -58,7 +58,7 @@ fn work<F: Files, O: Sink>(alloc: Global, words: &[String], files: &mut F, out: 
 /// Does what the words after the program's name say: `build SRC OUT`, `check SRC`, `play [options] SCRIPT MODULE..` or
 /// `run [options] SCRIPT SRC..`. Each line goes to the output or to the error stream by one put.
 ///
-/// With status Done, `check` found an accepted source; `build` found an accepted source, and OUT holds bytes of a valid module that does what the actor of its
+/// With status Done, `check` found an accepted source, and put one line for each `switch` that misses a value, in the order of the source; `build` found an accepted source, and OUT holds bytes of a valid module that does what the actor of its
 /// program does; `play` found valid modules and a script, and put the transcript of the host's run over them; `run` found
 /// accepted sources and a script, and put the transcript of a run of their actors. No other name changed. Each other status
 /// has its cause, and leaves the output as it was, or with a prefix of such a transcript.
