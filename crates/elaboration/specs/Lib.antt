@@ -1,0 +1,9 @@
+pub mod Scopes
+pub mod Checks
+pub mod Members
+pub mod Elaboration
+pub mod Programs
+pub mod Playing
+pub mod Rows
+pub mod WeightRows
+pub mod Meeting

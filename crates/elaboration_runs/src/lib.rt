@@ -1,0 +1,7 @@
+//! Executions of elaborated programs: how far Core's run is where an execution of a typed program stands so, and that it follows each turn
+//! of that. Each function of `laws` does nothing, and its contract is a theorem.
+#![tactic(auto)]
+
+mod laws;
+
+pub use laws::{calls_are_followed, turns_are_followed};

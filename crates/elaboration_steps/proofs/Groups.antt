@@ -1,0 +1,120 @@
+-- Groups of functions that are made: the names of their functions, and what the world has of them.
+use Rattle.std.proofs.Common.{◌≡◌, ◌⊎◌, inl, inr, ℕ, zero, suc, ◌+◌, List, [], ◌∷◌, ◌++◌, length, Option, Some, None, slice_get, refl, sym, ap, ◌∙◌, subst, arith}
+use Rattle.mo_values.specs.Shapes.{Function}
+use Rattle.core_ir.specs.Programs.{Group}
+use Rattle.core_ir.specs.Values as core_value
+use Rattle.core_ir.specs.Values.{members}
+use Rattle.core_ir.specs.Worlds.{MadeGroup, World}
+use Rattle.core_ir.specs.Worlds as worlds
+use Rattle.core_ir.specs.Expressions.{Body, nodes_of}
+use Rattle.typed_tree.specs.Language.{Functions, NoFunction, AFunction}
+use Rattle.typed_tree.specs.Substitution.{count, group_nodes}
+use Rattle.mo_machine.specs.Values.{Value, Closure, AValue}
+use Rattle.mo_machine.specs.Environments.{Environment, closures}
+use Rattle.mo_machine.specs.Acts.{Store}
+use Rattle.elaboration.specs.Scopes.{Place, Local, Scope, places_from}
+use Rattle.elaboration.specs.Meeting.{Reads}
+use Rattle.elaboration.proofs.Coming.{reads_new, reads_more}
+use Rattle.elaboration_forms.specs.Elaborates.{ElaboratesFunctions}
+use Rattle.elaboration_values.specs.Belonging.{Known, OfFunctions, OfMember, code_in, Belongs, StandsAt, EnvironmentBelongs}
+use Rattle.elaboration_steps.specs.Stacks.{GroupBelongs, GroupsBelong, WorldBelongs}
+use Rattle.elaboration_steps.proofs.Growth.{each_stays, functions_stay}
+use Rattle.elaboration_steps.proofs.Matching.{names_more}
+
+-- ---- lists
+
+pub last_stands : {A : Type 0} (xs : List A) (a : A) → slice_get (xs ++ a ∷ []) (length xs) ≡ Some a
+last_stands [] a = refl
+last_stands (x ∷ xs) a = last_stands xs a
+
+pub get_longer : {A : Type 0} (xs : List A) (a : A) (i : ℕ) (x : A) → slice_get xs i ≡ Some x → slice_get (xs ++ a ∷ []) i ≡ Some x
+get_longer [] a i x h = absurd (let z : None ≡ Some x = h in cc)
+get_longer (y ∷ xs) a zero x h = h
+get_longer (y ∷ xs) a (suc i) x h = get_longer xs a i x h
+
+abbrev some_or : {A : Type 0} → A → Option A → A
+some_or d None = d
+some_or d (Some a) = a
+
+before_or_last : {A : Type 0} (xs : List A) (a : A) (i : ℕ) (x : A) → slice_get (xs ++ a ∷ []) i ≡ Some x → (slice_get xs i ≡ Some x) ⊎ ((i ≡ length xs) × (a ≡ x))
+before_or_last [] a zero x h = inr (refl, ap (some_or a) h)
+before_or_last [] a (suc i) x h = absurd (let z : None ≡ Some x = h in cc)
+before_or_last (y ∷ xs) a zero x h = inl h
+before_or_last (y ∷ xs) a (suc i) x h = next (before_or_last xs a i x h)
+  where
+    next : (slice_get xs i ≡ Some x) ⊎ ((i ≡ length xs) × (a ≡ x)) → (slice_get (y ∷ xs) (suc i) ≡ Some x) ⊎ ((suc i ≡ length (y ∷ xs)) × (a ≡ x))
+    next (inl r) = inl r
+    next (inr r) = inr (ap (λ n. suc n) (r.0), r.1)
+
+longer : {A : Type 0} (xs : List A) (a : A) → length (xs ++ a ∷ []) ≡ suc (length xs)
+longer [] a = refl
+longer (x ∷ xs) a = ap (λ n. suc n) (longer xs a)
+
+pub with_members : (g i n : ℕ) (vals : List core_value.Value) → length (members g i n ++ vals) ≡ n + length vals
+with_members g i zero vals = omega arith
+with_members g i (suc n) vals = let z : length (members g (suc i) n ++ vals) ≡ n + length vals = with_members g (suc i) n vals in omega (arith, z)
+
+-- ---- what is made of the functions
+
+pub as_many_bodies : (table : List (Group Body)) (s : Scope) (fns : Functions) (bodies : List Body) → ElaboratesFunctions table s fns bodies → length bodies ≡ count fns
+as_many_bodies table s NoFunction bodies r = ap length r
+as_many_bodies table s (AFunction how nodes ps body fns) bodies r = ap length (r.4) ∙ ap (λ n. suc n) (as_many_bodies table s fns (r.1) (r.3))
+
+pub same_nodes : (table : List (Group Body)) (s : Scope) (fns : Functions) (bodies : List Body) → ElaboratesFunctions table s fns bodies → nodes_of bodies ≡ group_nodes fns
+same_nodes table s NoFunction bodies r = ap nodes_of r
+same_nodes table s (AFunction how nodes ps body fns) bodies r = ap nodes_of (r.4) ∙ ap (λ n. nodes + n) (same_nodes table s fns (r.1) (r.3))
+
+-- ---- names
+
+value_of_some : (d u : Value) → Some d ≡ Some u → d ≡ u
+value_of_some d u e = ap (some_or d) e
+
+module _ (known : List Known) (globals : List core_value.Value) (group : Functions) (env0 : Environment) (g : ℕ) (here : slice_get known g ≡ Some (OfFunctions group env0)) where
+  closure_belongs : (i : ℕ) → Belongs known (Closure group i env0) (Function (record { group = g; member = i }))
+  closure_belongs i = ap (λ o. code_in o i) here
+
+  pub group_names : (fns : Functions) (i : ℕ) (env : Environment) (places : List Place) (vals : List core_value.Value) → EnvironmentBelongs known globals places env vals
+      → EnvironmentBelongs known globals (places_from (length vals) (count fns) ++ places) (closures env0 group fns i env) (members g i (count fns) ++ vals)
+  group_names NoFunction i env places vals h = h
+  group_names (AFunction how nodes ps body fns) i env places vals h = each (group_names fns (suc i) env places vals h)
+    where
+      inner : List core_value.Value
+      inner = members g (suc i) (count fns) ++ vals
+
+      w : core_value.Value
+      w = Function (record { group = g; member = i })
+
+      each : EnvironmentBelongs known globals (places_from (length vals) (count fns) ++ places) (closures env0 group fns (suc i) env) inner
+          → EnvironmentBelongs known globals (Local (count fns + length vals) ∷ (places_from (length vals) (count fns) ++ places)) (AValue (Closure group i env0) (closures env0 group fns (suc i) env)) (w ∷ inner)
+      each others zero u e =
+          subst (λ u. StandsAt known globals (w ∷ inner) (Local (count fns + length vals)) u) (value_of_some (Closure group i env0) u e)
+          (w, subst (λ n. Reads (w ∷ inner) n w) (with_members g (suc i) (count fns) vals) (reads_new inner w), closure_belongs i)
+      each others (suc x) u e = names_more known globals _ _ inner (w ∷ inner) others (reads_more inner w) x u e
+
+-- ---- the world
+
+module _ (table : List (Group Body)) (known : List Known) (globals : List core_value.Value) (k : Known) where
+  abbrev grown : List Known
+  grown = known ++ k ∷ []
+
+  belongs_still : (other : Known) (made : MadeGroup) → GroupBelongs table known globals other made → GroupBelongs table grown globals other made
+  belongs_still (OfFunctions fns env) made r = functions_stay table known (k ∷ []) globals fns env made r
+  belongs_still (OfMember m holds) made r = record { a = r.a; is = r.is; empty = r.empty; there = r.there }
+
+  groups_grow : (made : List MadeGroup) (m : MadeGroup) → GroupsBelong table known globals made → GroupBelongs table grown globals k m → GroupsBelong table grown globals (made ++ m ∷ [])
+  groups_grow made m r new = record {
+    as_many = longer made m ∙ (ap (λ n. suc n) r.as_many ∙ sym (longer known k));
+    each = λ i other e. find i other (before_or_last known k i other e);
+  }
+    where
+      find : (i : ℕ) (other : Known) → (slice_get known i ≡ Some other) ⊎ ((i ≡ length known) × (k ≡ other)) → (m' : MadeGroup) × (slice_get (made ++ m ∷ []) i ≡ Some m') × GroupBelongs table grown globals other m'
+      find i other (inl h) =
+          let f : (m' : MadeGroup) × (slice_get made i ≡ Some m') × GroupBelongs table known globals other m' = r.each i other h in
+          (f.0, get_longer made m i (f.0) (f.1), belongs_still other (f.0) (f.2))
+      find i other (inr h) =
+          (m, subst (λ n. slice_get (made ++ m ∷ []) n ≡ Some m) (r.as_many ∙ sym (h.0)) (last_stands made m), subst (λ o. GroupBelongs table grown globals o m) (h.1) new)
+
+  pub world_grows : (store : Store) (world : World) (code : ℕ) (vals : List core_value.Value) → WorldBelongs table known globals store world → GroupBelongs table grown globals k (record { code = code; seen = vals })
+      → WorldBelongs table grown globals store (worlds.with_group world code vals)
+  world_grows store world code vals r new =
+      record { cells = each_stays table known (k ∷ []) globals store world.store r.cells; groups = groups_grow world.groups (record { code = code; seen = vals }) r.groups new }

@@ -1,0 +1,308 @@
+-- Each reduction of the machine of typed programs is followed by Core.
+use Rattle.std.proofs.Common.{◌≡◌, ℕ, zero, suc, ◌+◌, ◌*◌, ◌≤◌, Bool, true, false, List, [], ◌∷◌, ◌++◌, length, Some, None, slice_get, refl, sym, ap, subst, arith}
+use Rattle.mo_num.specs.declared.kind.Kind.TheVariants as kind
+use Rattle.mo_values.specs.declared.operation.Operation.TheVariants as op
+use Rattle.mo_values.specs.Costs.{weighing}
+use Rattle.mo_values.specs.Shapes.{Function, unit}
+use Rattle.core_ir.specs.declared.primitive.Primitive.TheVariants as primitive
+use Rattle.core_ir.specs.Choices.{on_some}
+use Rattle.core_ir.specs.Values as core_value
+use Rattle.core_ir.specs.Values.{members}
+use Rattle.core_ir.specs.Worlds.{World, Context}
+use Rattle.core_ir.specs.Worlds as worlds
+use Rattle.core_ir.specs.Expressions as core
+use Rattle.core_ir.specs.Expressions.{Loop, NoExp, Choose, Bind, Body, Core, nodes_of}
+use Rattle.core_ir.specs.CoreMachine as core_machine
+use Rattle.core_ir.specs.CoreMachine.{Frame, Arguments, Looping, Focus, Eval, stuck, grouped}
+use Rattle.typed_tree.specs.declared.action.Action.{Action}
+use Rattle.typed_tree.specs.declared.action.Action.TheVariants as action
+use Rattle.typed_tree.specs.declared.action.Member.{Member}
+use Rattle.typed_tree.specs.declared.action.Member.TheVariants as member
+use Rattle.typed_tree.specs.Patterns.{Pat}
+use Rattle.typed_tree.specs.Language as source
+use Rattle.typed_tree.specs.Language.{Exp, Exps, Functions, While, Repeat}
+use Rattle.typed_tree.specs.Substitution.{count, group_nodes}
+use Rattle.mo_machine.specs.Values.{Value, Values, BuiltIn, NoValue, listed, gathered}
+use Rattle.mo_machine.specs.Values as machine_value
+use Rattle.mo_machine.specs.Environments.{Environment, with_group}
+use Rattle.mo_machine.specs.Acts.{Store, Act, goes}
+use Rattle.mo_machine.specs.Frames as machine
+use Rattle.mo_machine.specs.Frames.{Operands, Returning, Testing, Repeating, Going, Stepping, Stack, Ready}
+use Rattle.mo_machine.specs.Jumps.{on_stack}
+use Rattle.mo_machine.specs.Reductions.{reduces}
+use Rattle.elaboration.specs.Scopes.{Place, under, nothing}
+use Rattle.elaboration.specs.Elaboration.{break_with, if_true, next_of}
+use Rattle.elaboration.specs.Meeting.{There}
+use Rattle.elaboration.proofs.Coming.{step}
+use Rattle.elaboration_forms.specs.Elaborates.{Elaborates, ElaboratesFunctions}
+use Rattle.elaboration_values.specs.Belonging.{Known, OfFunctions, OfMember, code_in, Belongs, EachBelongs, EnvironmentBelongs}
+use Rattle.elaboration_steps.specs.Stacks.{Labels, with_own_label, row_of, alone, spare, function_body, scope, while_of, repeat_of, turn_with, Passing, Written, Arrived, Coded, CodedBeside, CodedPattern, WorldBelongs, StateBelongs, AtCode, AtWhile, AtRepeat, AtAction, AtValue, AtEnd, AtBody, AtTurned, AtGoing, AtLeft, AtCallee, AtMaking, AtMade, AtApplied, AtInner, AtBack, AtFunction, Acting, Calling, Applied, Around, InTesting, InRepeating}
+use Rattle.elaboration_steps.specs.Follows.{further, rank, owed, lacking, Suits, Acts}
+use Rattle.elaboration_steps.proofs.Acting.{act_follows, inner_follows}
+use Rattle.elaboration_steps.proofs.Groups.{last_stands, with_members, as_many_bodies, same_nodes, group_names, world_grows}
+use Rattle.elaboration_steps.proofs.Growth.{names_stay, stack_stays}
+use Rattle.elaboration_steps.proofs.Matching.{coded}
+use Rattle.elaboration_steps.proofs.Paths.{waits, steps, does, does_then, acts_ahead, acts_behind}
+use Rattle.elaboration_steps.proofs.Rows.{some_action, member_acts}
+use Rattle.elaboration_steps.proofs.Taking.{turn_stack, takes_follow, going_follows}
+
+ready : (a : Action) (vs : List Value) → 1 ≤ further (Ready a vs)
+ready action.Call (BuiltIn m holds ∷ vs) = omega arith
+ready a vs = omega arith
+
+listed_all : (vs : List Value) → listed (gathered vs) ≡ vs
+listed_all [] = refl
+listed_all (v ∷ vs) = ap (λ xs. v ∷ xs) (listed_all vs)
+
+-- it needs nothing else
+lacks_nothing : (m : Member) (a : Action) (vs : List Value) → row_of m ≡ Some a → lacking (Ready a vs) ≡ 0
+lacks_nothing member.DebugPrint a vs e = ap (λ x. lacking (Ready x vs)) (sym (some_action action.Print a e))
+lacks_nothing member.DebugTrap a vs e = ap (λ x. lacking (Ready x vs)) (sym (some_action (action.Operate op.Trap) a e))
+lacks_nothing member.ErrorReject a vs e = ap (λ x. lacking (Ready x vs)) (sym (some_action (action.Operate op.RejectError) a e))
+lacks_nothing member.ErrorMessage a vs e = ap (λ x. lacking (Ready x vs)) (sym (some_action (action.Operate op.Message) a e))
+lacks_nothing member.ErrorCode a vs e = ap (λ x. lacking (Ready x vs)) (sym (some_action (action.Operate op.Code) a e))
+lacks_nothing member.NatToText a vs e = ap (λ x. lacking (Ready x vs)) (sym (some_action (action.Operate (op.ToText kind.Nat)) a e))
+lacks_nothing member.IntToText a vs e = ap (λ x. lacking (Ready x vs)) (sym (some_action (action.Operate (op.ToText kind.Int)) a e))
+lacks_nothing member.PrincipalFromActor a vs e = ap (λ x. lacking (Ready x vs)) (sym (some_action (action.Operate op.PrincipalOf) a e))
+lacks_nothing member.ArraySize a vs e = ap (λ x. lacking (Ready x vs)) (sym (some_action (action.Operate op.ArraySize) a e))
+lacks_nothing member.TextSize a vs e = ap (λ x. lacking (Ready x vs)) (sym (some_action (action.Operate op.TextSize) a e))
+lacks_nothing _ a vs e = absurd (let z : None ≡ Some a = e in cc)
+
+further_of_row : (m : Member) (a : Action) (vs : List Value) → row_of m ≡ Some a → further (Ready a vs) ≡ 1
+further_of_row member.DebugPrint a vs e = ap (λ x. further (Ready x vs)) (sym (some_action action.Print a e))
+further_of_row member.DebugTrap a vs e = ap (λ x. further (Ready x vs)) (sym (some_action (action.Operate op.Trap) a e))
+further_of_row member.ErrorReject a vs e = ap (λ x. further (Ready x vs)) (sym (some_action (action.Operate op.RejectError) a e))
+further_of_row member.ErrorMessage a vs e = ap (λ x. further (Ready x vs)) (sym (some_action (action.Operate op.Message) a e))
+further_of_row member.ErrorCode a vs e = ap (λ x. further (Ready x vs)) (sym (some_action (action.Operate op.Code) a e))
+further_of_row member.NatToText a vs e = ap (λ x. further (Ready x vs)) (sym (some_action (action.Operate (op.ToText kind.Nat)) a e))
+further_of_row member.IntToText a vs e = ap (λ x. further (Ready x vs)) (sym (some_action (action.Operate (op.ToText kind.Int)) a e))
+further_of_row member.PrincipalFromActor a vs e = ap (λ x. further (Ready x vs)) (sym (some_action (action.Operate op.PrincipalOf) a e))
+further_of_row member.ArraySize a vs e = ap (λ x. further (Ready x vs)) (sym (some_action (action.Operate op.ArraySize) a e))
+further_of_row member.TextSize a vs e = ap (λ x. further (Ready x vs)) (sym (some_action (action.Operate op.TextSize) a e))
+further_of_row _ a vs e = absurd (let z : None ≡ Some a = e in cc)
+
+module _ (program : Core) (context : Context) (nodes : ℕ) (held : ℕ) (known : List Known) (world : World) (store : Store) (worlds_belong : WorldBelongs program.groups known context.globals store world) where
+  module _ (b : Bool) (l : Labels) (k : Stack) (ck : List Frame) (around : Around program context nodes world known b l held k ck) (env : Environment) (vals : List core_value.Value) where
+    abbrev A : machine.Focus → ℕ → Focus → List Frame → Act → Type 0
+    A f = Acts program context nodes (rank f k) held known world store k
+
+    abbrev Code : Exp → core.Exp → Type 0
+    Code e c = Coded program.groups known context.globals b (with_own_label l) e env c vals
+
+    -- the test of a loop, from where its body stands
+    tests : (f : machine.Focus) (x y : Exp) (c d : core.Exp) (spent : ℕ) → Code x c → Code y d → spent ≤ 2
+        → A f spent (Eval (while_of c d) vals) (Looping (while_of c d) vals ∷ core_machine.Labelled ∷ ck) (goes store (machine.Eval x env) (Testing x y env ∷ k))
+    tests f x y c d spent p q le =
+        steps program context nodes 0 (rank f k) (spent + owed k) (2 * 1 + held) 0 held known world _ _ (Eval c vals) (Arguments (Choose primitive.Copy d (break_with nothing)) [] NoExp vals ∷ Looping (while_of c d) vals ∷ core_machine.Labelled ∷ ck)
+        store (machine.Eval x env) (Testing x y env ∷ k) refl refl (omega (arith, le)) worlds_belong
+        (AtCode b (with_own_label l) x env (Testing x y env ∷ k) c vals (Arguments (Choose primitive.Copy d (break_with nothing)) [] NoExp vals ∷ Looping (while_of c d) vals ∷ core_machine.Labelled ∷ ck) p
+        (InTesting b l held x y env k c d vals ck p q around))
+
+    repeats : (f : machine.Focus) (y x : Exp) (d c : core.Exp) (spent : ℕ) → Code y d → CodedBeside program.groups known context.globals b (with_own_label l) x env c vals → spent ≤ 2
+        → A f spent (Eval (repeat_of d c) vals) (Looping (repeat_of d c) vals ∷ core_machine.Labelled ∷ ck) (goes store (machine.Eval y env) (Repeating y x env ∷ k))
+    repeats f y x d c spent p q le =
+        steps program context nodes 0 (rank f k) (spent + owed k) (2 * 1 + held) 0 held known world _ _ (Eval d vals) (Arguments (Bind (if_true c nothing (break_with nothing))) [] NoExp vals ∷ Looping (repeat_of d c) vals ∷ core_machine.Labelled ∷ ck)
+        store (machine.Eval y env) (Repeating y x env ∷ k) refl refl (omega (arith, le)) worlds_belong
+        (AtCode b (with_own_label l) y env (Repeating y x env ∷ k) d vals (Arguments (Bind (if_true c nothing (break_with nothing))) [] NoExp vals ∷ Looping (repeat_of d c) vals ∷ core_machine.Labelled ∷ ck) p
+        (InRepeating b l held y x env k d c vals ck p q around))
+
+    -- a loop is entered
+    enters_loop : (f : machine.Focus) (c : core.Exp) (t : Act) → A f (0 + 1 + 1) (Eval c vals) (Looping c vals ∷ core_machine.Labelled ∷ ck) t → A f 0 (Eval (core.Label (Loop c)) vals) ck t
+    enters_loop f c t r =
+        acts_ahead program context nodes (rank f k) held known world store k 1 0 _ ck (Eval (Loop c) vals) (core_machine.Labelled ∷ ck) t refl refl
+        (acts_ahead program context nodes (rank f k) held known world store k 1 (0 + 1) _ _ (Eval c vals) (Looping c vals ∷ core_machine.Labelled ∷ ck) t refl refl r)
+
+    -- a group is made
+    module _ (places : List Place) (names : EnvironmentBelongs known context.globals places env vals) (fns : Functions) (d : Exp) (n : ℕ) (bodies : List Body) (z : core.Exp)
+        (there : slice_get program.groups n ≡ Some (record { sees = length vals; bodies = bodies })) (functions : ElaboratesFunctions program.groups (under (count fns) (scope places l vals)) fns bodies)
+        (rest : Elaborates program.groups b (under (count fns) (scope places l vals)) d z) where
+      abbrev made : Known
+      made = OfFunctions fns env
+
+      abbrev grown : List Known
+      grown = known ++ made ∷ []
+
+      abbrev g : ℕ
+      g = length world.groups
+
+      here : slice_get grown g ≡ Some made
+      here = subst (λ i. slice_get grown i ≡ Some made) (sym worlds_belong.groups.as_many) (last_stands known made)
+
+      names_grown : EnvironmentBelongs grown context.globals places env vals
+      names_grown = names_stay program.groups known (made ∷ []) context.globals places env vals names
+
+      bodies_are : length bodies ≡ count fns
+      bodies_are = as_many_bodies program.groups (under (count fns) (scope places l vals)) fns bodies functions
+
+      abbrev inner : List core_value.Value
+      inner = members g 0 (length bodies) ++ vals
+
+      as_many : count fns + length vals ≡ length inner
+      as_many = let x : length inner ≡ length bodies + length vals = with_members g 0 (length bodies) vals in let y : length bodies ≡ count fns = bodies_are in omega (arith, x, y)
+
+      pub group_follows : A (machine.Eval (source.Group fns d) env) 0 (Eval (core.Functions n z) vals) ck (reduces context.head None store (machine.Eval (source.Group fns d) env) k)
+      group_follows =
+          let same : nodes_of bodies ≡ group_nodes fns = same_nodes program.groups (under (count fns) (scope places l vals)) fns bodies functions in
+          does program context nodes (rank (machine.Eval (source.Group fns d) env) k) (0 + owed k) (2 * (1 + group_nodes fns) + held) 0 held (weighing (1 + nodes_of bodies)) [] known grown world (worlds.with_group world n vals) _ ck (Eval z inner) ck store
+          (machine.Eval d (with_group fns env)) k
+          (ap (λ o. on_some (stuck program context nodes world) o (λ i. grouped program context nodes world n z vals ck i.bodies)) there) (omega (arith, same)) (omega arith) (made ∷ [], refl) refl
+          (world_grows program.groups known context.globals made store world n vals worlds_belong (record { places = places; labels = l; bodies = bodies; there = there; code = functions; names = names_grown }))
+          (AtCode b l d (with_group fns env) k z inner ck
+          (coded program context nodes grown b (under (count fns) (scope places l vals)) d (with_group fns env) z inner as_many rest
+          (subst (λ i. EnvironmentBelongs grown context.globals (under (count fns) (scope places l vals)).places (with_group fns env) (members g 0 i ++ vals)) (sym bodies_are)
+          (group_names grown context.globals fns env g here fns 0 env places vals names_grown)))
+          (stack_stays program.groups known (made ∷ []) context.globals nodes b l held k ck around))
+
+    eval_follows : (e : Exp) (c : core.Exp) → Coded program.groups known context.globals b l e env c vals → A (machine.Eval e env) 0 (Eval c vals) ck (reduces context.head None store (machine.Eval e env) k)
+    eval_follows (source.Group fns d) c r =
+        let t : Elaborates program.groups b (scope r.places l vals) (source.Group fns d) c = r.code in
+        subst (λ x. A (machine.Eval (source.Group fns d) env) 0 (Eval x vals) ck (reduces context.head None store (machine.Eval (source.Group fns d) env) k)) (sym (t.6))
+        (group_follows r.places r.names fns d (t.0) (t.1) (t.2) (t.3) (t.4) (t.5))
+    eval_follows (While x d) c r =
+        let t : Elaborates program.groups b (scope r.places l vals) (While x d) c = r.code in
+        subst (λ y. A (machine.Eval (While x d) env) 0 (Eval y vals) ck (reduces context.head None store (machine.Eval (While x d) env) k)) (sym (t.4))
+        (enters_loop (machine.Eval (While x d) env) (while_of (t.0) (t.1)) (goes store (machine.Eval x env) (Testing x d env ∷ k))
+        (tests (machine.Eval (While x d) env) x d (t.0) (t.1) (0 + 1 + 1) (record { places = r.places; code = t.2; names = r.names }) (record { places = r.places; code = t.3; names = r.names }) (omega arith)))
+    eval_follows (Repeat d x) c r =
+        let t : Elaborates program.groups b (scope r.places l vals) (Repeat d x) c = r.code in
+        subst (λ y. A (machine.Eval (Repeat d x) env) 0 (Eval y vals) ck (reduces context.head None store (machine.Eval (Repeat d x) env) k)) (sym (t.4))
+        (enters_loop (machine.Eval (Repeat d x) env) (repeat_of (t.0) (t.1)) (goes store (machine.Eval d env) (Repeating d x env ∷ k))
+        (repeats (machine.Eval (Repeat d x) env) d x (t.0) (t.1) (0 + 1 + 1) (record { places = r.places; code = t.2; names = r.names }) (record { places = r.places; code = t.3; names = r.names }) (omega arith)))
+    eval_follows (source.Val v) c r = tt
+    eval_follows (source.Name x) c r = tt
+    eval_follows (source.Do a es) c r = tt
+    eval_follows (source.If x y z) c r = tt
+    eval_follows (source.Switch e cases) c r = tt
+    eval_follows (source.Frame n e) c r = tt
+    eval_follows (source.Label e) c r = tt
+    eval_follows (source.For p e d) c r = tt
+    eval_follows (source.Try e p d) c r = tt
+    eval_follows (source.Update o e f) c r = tt
+
+  -- the action that is due
+  acting : (a : Action) (vs : List Value) (k : Stack) (cf : Focus) (ck : List Frame) → Acting program context nodes world known held a vs k cf ck → Suits known (Ready a vs) k
+      → Acts program context nodes (rank (Ready a vs) k) (held + lacking (Ready a vs)) known world store k 0 cf ck (reduces context.head None store (Ready a vs) k)
+  acting a vs k cf ck r suits =
+      acts_behind program context nodes (rank (Ready a vs) k) (held + lacking (Ready a vs)) known world store k r.weight 0 cf ck r.f' r.ck' _ r.path
+      (act_follows program context nodes (rank (Ready a vs) k) (held + lacking (Ready a vs)) known world store k worlds_belong (0 + r.weight) r.f' r.ck' r.b r.l r.less r.others r.around r.vals (let z : 1 ≤ further (Ready a vs) = ready a vs in omega (arith, z)) a vs r.values r.may r.arguments r.level suits r.acts
+      (let h : r.weight + r.less ≤ held + spare a = r.paid in omega (arith, h)))
+
+  -- the value behind the body of a `for`, and that behind the last element
+  turned : (b : Bool) (l : Labels) (p : Pat) (e : Exp) (env : Environment) (v : Value) (k : Stack) (c : core.Exp) (w : core_value.Value) (vals : List core_value.Value) (ck : List Frame) (f : machine.Focus) (more : Stack)
+      → Passing true (Stepping p v e env ∷ k) f more → Belongs known v w → CodedPattern program.groups known context.globals b (with_own_label l) p e env c (w ∷ vals) → Around program context nodes world known b l held k ck
+      → Acts program context nodes (rank f more) held known world store more 0 (Eval (turn_with c) (w ∷ vals)) (Looping (turn_with c) (w ∷ vals) ∷ core_machine.Labelled ∷ ck) (reduces context.head None store f more)
+  turned b l p e env v k c w vals ck f more (Written n env') value pattern around = tt
+  turned b l p e env v k c w vals ck f more (Arrived (suc n)) value pattern around = tt
+  turned b l p e env v k c w vals ck f more (Arrived zero) value pattern around =
+      steps program context nodes 0 (rank f more) (0 + owed more) (2 * 1 + held) 0 held known world _ _ (Eval (next_of (core.Name 0)) (w ∷ vals)) (turn_stack c w vals ck) store (machine.Give v) (Going p e env ∷ k) refl refl (omega arith) worlds_belong
+      (AtGoing b l p e env v k c w vals ck value pattern around)
+
+  left_behind : (b : Bool) (l : Labels) (p : Pat) (e : Exp) (env : Environment) (v : Value) (k : Stack) (ck : List Frame) (f : machine.Focus) (more : Stack)
+      → Passing false (Stepping p v e env ∷ k) f more → Around program context nodes world known b l held k ck
+      → Acts program context nodes (rank f more) held known world store more 0 (core_machine.Give unit) ck (reduces context.head None store f more)
+  left_behind b l p e env v k ck f more (Written n env') around = tt
+  left_behind b l p e env v k ck f more (Arrived (suc n)) around = tt
+  left_behind b l p e env v k ck f more (Arrived zero) around =
+      waits program context nodes (rank f more) (0 + owed more) (2 * 1 + held) 0 held known world (core_machine.Give unit) ck store (machine.Give machine_value.unit) k (omega arith) (omega arith) worlds_belong
+      (AtValue b l machine_value.unit unit k ck (refl, tt) around)
+
+  -- a built-in function that is called at once: what it holds is put together, it is entered, and left
+  member_made : (m : Member) (vs : List Value) (args : Exps) (env : Environment) (k : Stack) (cf : Focus) (ck : List Frame) → Calling program context nodes world known held m vs args env k cf ck
+      → Acts program context nodes (rank (Ready (action.BuiltIn m) vs) (Operands action.Call [] args env ∷ k)) (held + 0) known world store (Operands action.Call [] args env ∷ k) 0 cf ck (reduces context.head None store (Ready (action.BuiltIn m) vs) (Operands action.Call [] args env ∷ k))
+  member_made m vs args env k cf ck r =
+      waits program context nodes (rank (Ready (action.BuiltIn m) vs) (Operands action.Call [] args env ∷ k)) (0 + owed (Operands action.Call [] args env ∷ k)) (2 * (2 + length (machine_value.shapes_list vs)) + (held + 0)) 0 held known world cf ck store
+      (machine.Give (BuiltIn m (gathered vs))) (Operands action.Call [] args env ∷ k) (omega arith) (omega arith) worlds_belong
+      (AtMade m (gathered vs) args env k cf ck (record {
+        b = r.b;
+        l = r.l;
+        a = r.a;
+        values = r.values;
+        arguments = r.arguments;
+        vals = r.vals;
+        others = r.others;
+        row = r.row;
+        belongs = subst (λ xs. EachBelongs known xs r.values) (sym (listed_all vs)) r.belongs;
+        code = r.code;
+        acts = r.acts;
+        level = r.level;
+        around = r.around;
+      }))
+
+  member_applied : (m : Member) (a : Action) (holds : Values) (vs : List Value) (k : Stack) (cf : Focus) (ck : List Frame) → row_of m ≡ Some a → Applied program context nodes world known held a (listed holds ++ vs) k cf ck
+      → Acts program context nodes (rank (Ready action.Call (BuiltIn m holds ∷ vs)) k) (held + 0) known world store k 0 cf ck (reduces context.head None store (Ready action.Call (BuiltIn m holds ∷ vs)) k)
+  member_applied m a holds vs k cf ck row r =
+      member_acts store (λ t. Acts program context nodes (rank (Ready action.Call (BuiltIn m holds ∷ vs)) k) (held + 0) known world store k 0 cf ck (on_stack store t k)) m a (listed holds) vs row tt
+      (waits program context nodes (rank (Ready action.Call (BuiltIn m holds ∷ vs)) k) (0 + owed k) (2 * 1 + (held + 0)) 0 held known world cf ck store (Ready a (listed holds ++ vs)) (Returning 0 ∷ k) (omega arith)
+      (let z : further (Ready a (listed holds ++ vs)) ≡ 1 = further_of_row m a (listed holds ++ vs) row in omega (arith, z)) worlds_belong
+      (AtInner m a (listed holds ++ vs) k cf ck row r))
+
+  member_inner : (m : Member) (a : Action) (vs : List Value) (k : Stack) (cf : Focus) (ck : List Frame) → row_of m ≡ Some a → Applied program context nodes world known held a vs k cf ck → Suits known (Ready a vs) (Returning 0 ∷ k)
+      → Acts program context nodes (rank (Ready a vs) (Returning 0 ∷ k)) (held + lacking (Ready a vs)) known world store (Returning 0 ∷ k) 0 cf ck (reduces context.head None store (Ready a vs) (Returning 0 ∷ k))
+  member_inner m a vs k cf ck row r suits =
+      inner_follows program context nodes (rank (Ready a vs) (Returning 0 ∷ k)) (held + lacking (Ready a vs)) known world store (Returning 0 ∷ k) worlds_belong 0 cf ck held r.others
+      (λ world' v w x. AtBack r.b r.l v w k r.others x r.around) r.vals (let z : lacking (Ready a vs) ≡ 0 = lacks_nothing m a vs row in omega (arith, z)) r.l m a vs r.values row r.belongs suits r.acts
+
+  member_back : (b : Bool) (l : Labels) (v : Value) (w : core_value.Value) (k : Stack) (ck : List Frame) → Belongs known v w → Around program context nodes world known b l held k ck
+      → Acts program context nodes (rank (machine.Give v) (Returning 0 ∷ k)) (held + 0) known world store (Returning 0 ∷ k) 0 (core_machine.Give w) ck (reduces context.head None store (machine.Give v) (Returning 0 ∷ k))
+  member_back b l v w k ck value around =
+      waits program context nodes (rank (machine.Give v) (Returning 0 ∷ k)) (0 + owed (Returning 0 ∷ k)) (2 * 1 + (held + 0)) 0 held known world (core_machine.Give w) ck store (machine.Give v) k (omega arith) (omega arith) worlds_belong
+      (AtValue b l v w k ck value around)
+
+  -- a built-in function is made
+  function_made : (b : Bool) (l : Labels) (m : Member) (a : Action) (n : ℕ) (k : Stack) (vals : List core_value.Value) (ck : List Frame) → alone m ≡ Some a → slice_get program.groups n ≡ Some (record { sees = length vals; bodies = function_body a ∷ [] })
+      → Around program context nodes world known b l held k ck
+      → Acts program context nodes (rank (Ready (action.BuiltIn m) []) k) (held + 0) known world store k 0 (Eval (core.Functions n (core.Name 0)) vals) ck (reduces context.head None store (Ready (action.BuiltIn m) []) k)
+  function_made b l m a n k vals ck is there around =
+      does_then program context nodes 0 (rank (Ready (action.BuiltIn m) []) k) (0 + owed k) (2 * (2 + 0) + (held + 0)) 0 held (weighing (1 + (0 + 0))) [] known (known ++ OfMember m NoValue ∷ []) world (worlds.with_group world n vals) _ ck
+      (Eval (core.Name 0) (function ∷ vals)) ck (core_machine.Give function) ck store (machine.Give (BuiltIn m NoValue)) k
+      (ap (λ o. on_some (stuck program context nodes world) o (λ i. grouped program context nodes world n (core.Name 0) vals ck i.bodies)) there)
+      (step program context nodes (worlds.with_group world n vals) 0 0 (Eval (core.Name 0) (function ∷ vals)) ck (core_machine.Give function) ck refl (core_machine.Give function) ck refl (There 0 (core_machine.Give function) ck))
+      (omega arith) (omega arith) (OfMember m NoValue ∷ [], refl) refl
+      (world_grows program.groups known context.globals (OfMember m NoValue) store world n vals worlds_belong (record { a = a; is = is; empty = refl; there = there }))
+      (AtValue b l (BuiltIn m NoValue) function k ck (ap (λ o. code_in o 0) here) (stack_stays program.groups known (OfMember m NoValue ∷ []) context.globals nodes b l held k ck around))
+    where
+      function : core_value.Value
+      function = Function (record { group = length world.groups; member = 0 })
+
+      here : slice_get (known ++ OfMember m NoValue ∷ []) (length world.groups) ≡ Some (OfMember m NoValue)
+      here = subst (λ i. slice_get (known ++ OfMember m NoValue ∷ []) i ≡ Some (OfMember m NoValue)) (sym worlds_belong.groups.as_many) (last_stands known (OfMember m NoValue))
+
+  nothing_lacks : held ≡ held + 0
+  nothing_lacks = omega arith
+
+  lacks_none : (t : Bool) (k : Stack) (cf : Focus) (ck : List Frame) (f : machine.Focus) (more : Stack) → Passing t k f more → Acts program context nodes (rank f more) held known world store more 0 cf ck (reduces context.head None store f more)
+      → Acts program context nodes (rank f more) (held + lacking f) known world store more 0 cf ck (reduces context.head None store f more)
+  lacks_none t k cf ck f more (Written n env) r =
+      subst (λ i. Acts program context nodes (rank f more) i known world store more 0 cf ck (reduces context.head None store f more)) nothing_lacks r
+  lacks_none t k cf ck f more (Arrived n) r =
+      subst (λ i. Acts program context nodes (rank f more) i known world store more 0 cf ck (reduces context.head None store f more)) nothing_lacks r
+
+  pub reduces_follow : (f : machine.Focus) (k : Stack) (cf : Focus) (ck : List Frame) → StateBelongs program context nodes world known held f k cf ck → Suits known f k
+      → Acts program context nodes (rank f k) (held + lacking f) known world store k 0 cf ck (reduces context.head None store f k)
+  reduces_follow f k cf ck (AtCode b l e env j c vals cj code around) suits =
+      subst (λ n. Acts program context nodes (rank (machine.Eval e env) j) n known world store j 0 (Eval c vals) cj (reduces context.head None store (machine.Eval e env) j)) nothing_lacks
+      (eval_follows b l j cj around env vals e c code)
+  reduces_follow f k cf ck (AtWhile b l x y env j c d vals cj p q r) suits =
+      subst (λ n. Acts program context nodes (rank (machine.Eval (While x y) env) j) n known world store j 0 (Eval (while_of c d) vals) (Looping (while_of c d) vals ∷ core_machine.Labelled ∷ cj) (reduces context.head None store (machine.Eval (While x y) env) j)) nothing_lacks
+      (tests b l j cj r env vals (machine.Eval (While x y) env) x y c d 0 p q (omega arith))
+  reduces_follow f k cf ck (AtRepeat b l y x env j d c vals cj p q r) suits =
+      subst (λ n. Acts program context nodes (rank (machine.Eval (Repeat y x) env) j) n known world store j 0 (Eval (repeat_of d c) vals) (Looping (repeat_of d c) vals ∷ core_machine.Labelled ∷ cj) (reduces context.head None store (machine.Eval (Repeat y x) env) j)) nothing_lacks
+      (repeats b l j cj r env vals (machine.Eval (Repeat y x) env) y x d c 0 p q (omega arith))
+  reduces_follow f k cf ck (AtAction a vs j g cj r) suits = acting a vs j g cj r suits
+  reduces_follow f k cf ck (AtValue b l v w j cj value around) suits =
+      subst (λ n. Acts program context nodes (rank (machine.Give v) j) n known world store j 0 (core_machine.Give w) cj (reduces context.head None store (machine.Give v) j)) nothing_lacks
+      (takes_follow program context nodes held known world store worlds_belong v w value b l j cj around suits)
+  reduces_follow f k cf ck (AtEnd v w g cj value eq paid flat) suits = tt
+  reduces_follow f k cf ck (AtBody b l p e env inner v j c d w vals vals' js cj a value pattern code around) suits = tt
+  reduces_follow f k cf ck (AtTurned b l p e env v j c w vals cj g more q value pattern around) suits = lacks_none true (Stepping p v e env ∷ j) _ _ g more q (turned b l p e env v j c w vals cj g more q value pattern around)
+  reduces_follow f k cf ck (AtGoing b l p e env v j c w vals cj value pattern around) suits =
+      subst (λ n. Acts program context nodes (rank (machine.Give v) (Going p e env ∷ j)) n known world store (Going p e env ∷ j) 0 (Eval (next_of (core.Name 0)) (w ∷ vals)) (turn_stack c w vals cj) (reduces context.head None store (machine.Give v) (Going p e env ∷ j))) nothing_lacks
+      (going_follows program context nodes held known world store worlds_belong v w value b l p e env j c vals cj pattern around)
+  reduces_follow f k cf ck (AtLeft b l p e env v j cj g more q around) suits = lacks_none false (Stepping p v e env ∷ j) _ _ g more q (left_behind b l p e env v j cj g more q around)
+  reduces_follow f k cf ck (AtCallee b l m a es args env j later arguments vals cj row d e around) suits = tt
+  reduces_follow f k cf ck (AtMaking m vs args env j g cj r) suits = member_made m vs args env j g cj r
+  reduces_follow f k cf ck (AtMade m holds args env j g cj r) suits = tt
+  reduces_follow f k cf ck (AtApplied m a holds vs j g cj row r) suits = member_applied m a holds vs j g cj row r
+  reduces_follow f k cf ck (AtInner m a vs j g cj row r) suits = member_inner m a vs j g cj row r suits
+  reduces_follow f k cf ck (AtBack b l v w j cj value around) suits = member_back b l v w j cj value around
+  reduces_follow f k cf ck (AtFunction b l m a n j vals cj is there around) suits = function_made b l m a n j vals cj is there around

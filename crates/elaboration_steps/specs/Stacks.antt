@@ -1,0 +1,381 @@
+-- Which states of Core's machine belong to those of the machine of typed programs, by the frames of the stack (Motoko language manual,
+-- section "Expressions and declarations").
+use Rattle.std.specs.Prelude.{◌≡◌, ℕ, zero, suc, ◌+◌, ◌≤◌, Bool, true, false, List, [], ◌∷◌, ◌++◌, length, Option, Some, None, slice_get}
+use Rattle.mo_types.specs.declared.datum.Datum.TheVariants as part
+use Rattle.mo_num.specs.declared.kind.Kind.TheVariants as kind
+use Rattle.mo_values.specs.declared.operation.Operation.{Operation}
+use Rattle.mo_values.specs.declared.operation.Operation.TheVariants as op
+use Rattle.mo_values.specs.Costs.{weighing}
+use Rattle.mo_values.specs.Shapes.{unit}
+use Rattle.core_ir.specs.declared.primitive.Constructor.TheVariants as constructor
+use Rattle.core_ir.specs.declared.primitive.Primitive.TheVariants as primitive
+use Rattle.core_ir.specs.Programs.{Group}
+use Rattle.core_ir.specs.Values as core_value
+use Rattle.core_ir.specs.Worlds.{MadeGroup, World, Context}
+use Rattle.core_ir.specs.Executions.{Replies, Ends}
+use Rattle.core_ir.specs.Expressions as core
+use Rattle.core_ir.specs.Expressions.{Loop, NoExp, AnExp, Choose, Match, Bind, Break, Body, Core}
+use Rattle.core_ir.specs.CoreMachine as core_machine
+use Rattle.core_ir.specs.CoreMachine.{Arguments, Looping, Caller, Join, Did, focused, act, depth_of}
+use Rattle.typed_tree.specs.declared.action.Action.{Action}
+use Rattle.typed_tree.specs.declared.action.Action.TheVariants as action
+use Rattle.typed_tree.specs.declared.action.Member.{Member}
+use Rattle.typed_tree.specs.declared.action.Member.TheVariants as member
+use Rattle.typed_tree.specs.Patterns.{Pat, Wildcard}
+use Rattle.typed_tree.specs.Language as source
+use Rattle.typed_tree.specs.Language.{Exp, Exps, Cases, Functions, NoCase, ACase, Val, While, Repeat, true_value, then}
+use Rattle.typed_tree.specs.Substitution.{count}
+use Rattle.mo_meaning.specs.Reduce.{turn_cases}
+use Rattle.mo_machine.specs.Values.{Value, Values, BuiltIn, NoValue, leaf, listed}
+use Rattle.mo_machine.specs.Environments.{Environment}
+use Rattle.mo_machine.specs.Acts.{Store}
+use Rattle.mo_machine.specs.Frames as machine
+use Rattle.mo_machine.specs.Frames.{Operands, Choosing, Switching, Returning, Testing, Turning, Repeating, Retesting, Going, Stepping, Updating, Joining, Stack, Ready}
+use Rattle.elaboration.specs.Scopes.{Place, Scope, one, two, append, nothing, beside, inside, under}
+use Rattle.elaboration.specs.Checks.{around_all, behind, fails}
+use Rattle.elaboration.specs.Members.{let_in, does}
+use Rattle.elaboration.specs.Elaboration.{break_with, if_true, goal_of, next_of, on_nearest}
+use Rattle.elaboration.specs.Meeting.{Joins, Comes}
+use Rattle.elaboration_forms.specs.Elaborates.{May, Elaborates, ElaboratesAll, ElaboratesCases, ElaboratesFunctions}
+use Rattle.elaboration_values.specs.Belonging.{Known, OfFunctions, OfMember, Belongs, EachBelongs, EnvironmentBelongs}
+
+-- frames of Core that a jump passes on its way to a label
+abbrev pub Passed : List core_machine.Frame → Type 0
+Passed [] = Unit {0}
+Passed (Join ∷ k) = Passed k
+Passed (Arguments g done rest env ∷ k) = Passed k
+Passed (_ ∷ k) = ⊥
+
+-- ---- labels
+
+-- the labels on top of a stack: which of Core's are those of the source, and how many there are
+pub record Labels : Type 0 where
+  pub exits : List ℕ
+  pub count : ℕ
+
+abbrev pub labels_of : Scope → Labels
+labels_of s = record { exits = s.exits; count = s.labels }
+
+abbrev pub no_labels : Labels
+no_labels = record { exits = []; count = 0 }
+
+-- under a label of both, and under one of Core alone
+abbrev pub with_label : Labels → Labels
+with_label l = record { exits = l.count ∷ l.exits; count = suc l.count }
+
+abbrev pub with_own_label : Labels → Labels
+with_own_label l = record { exits = l.exits; count = suc l.count }
+
+-- under these labels, with a name for each of these values
+abbrev pub scope : List Place → Labels → List core_value.Value → Scope
+scope places l vals = record { places = places; names = length vals; exits = l.exits; labels = l.count }
+
+abbrev pub goal_at : Labels → Action → core.Goal
+goal_at l a = goal_of (scope [] l []) a
+
+-- an action that is a goal, where it may stand
+abbrev pub IsGoal : Bool → Action → Type 0
+IsGoal b (action.BuiltIn m) = ⊥
+IsGoal b a = May b a
+
+-- built-in functions that are one operation or a print
+abbrev pub row_of : Member → Option Action
+row_of member.DebugPrint = Some action.Print
+row_of member.DebugTrap = Some (action.Operate op.Trap)
+row_of member.ErrorReject = Some (action.Operate op.RejectError)
+row_of member.ErrorMessage = Some (action.Operate op.Message)
+row_of member.ErrorCode = Some (action.Operate op.Code)
+row_of member.NatToText = Some (action.Operate (op.ToText kind.Nat))
+row_of member.IntToText = Some (action.Operate (op.ToText kind.Int))
+row_of member.PrincipalFromActor = Some (action.Operate op.PrincipalOf)
+row_of member.ArraySize = Some (action.Operate op.ArraySize)
+row_of member.TextSize = Some (action.Operate op.TextSize)
+row_of _ = None
+
+-- those that hold nothing, and take one argument
+abbrev pub alone : Member → Option Action
+alone member.ArraySize = None
+alone member.TextSize = None
+alone m = row_of m
+
+-- what an operation pays besides its own step
+abbrev pub spare : Action → ℕ
+spare (action.Operate o) = 1
+spare _ = 0
+
+-- ---- code whose names have their values
+
+-- `op=` behind its place, and the test behind the body of a loop
+abbrev pub update_with : Operation → core.Exp → core.Exp
+update_with o c = does primitive.Write (two (core.Name 0) (does (primitive.Operate o) (two (does primitive.Read (one (core.Name 0))) c)))
+
+abbrev pub while_of : core.Exp → core.Exp → core.Exp
+while_of c d = if_true c d (break_with nothing)
+
+abbrev pub repeat_of : core.Exp → core.Exp → core.Exp
+repeat_of d c = let_in d (if_true c nothing (break_with nothing))
+
+-- of a built-in function that is a value
+abbrev pub function_body : Action → Body
+function_body a = record { parameters = 1; nodes = 0; expression = core.Do (goal_at no_labels a) (one (core.Name 0)) }
+
+-- a turn of a `for`, with what is done with an element; and the cases of its body, behind which a truth value comes
+abbrev pub turn_with : core.Exp → core.Exp
+turn_with c = core.Do (Match constructor.Present c (break_with nothing)) (one (next_of (core.Name 0)))
+
+abbrev pub body_cases : Cases
+body_cases = ACase Wildcard (Val true_value) NoCase
+
+-- so many ends of branches, and a truth value on its way to what stands around them
+abbrev pub joinings : ℕ → Stack → Stack
+joinings zero k = k
+joinings (suc n) k = Joining ∷ joinings n k
+
+pub data Passing (t : Bool) (k : Stack) : machine.Focus → Stack → Type 0 where
+  Written : (n : ℕ) (env : Environment) → Passing t k (machine.Eval (Val (source.leaf (part.Flag t))) env) (joinings n k)
+  Arrived : (n : ℕ) → Passing t k (machine.Give (leaf (part.Flag t))) (joinings n k)
+
+module _ (table : List (Group Body)) (known : List Known) (globals : List core_value.Value) where
+  pub record Coded (b : Bool) (l : Labels) (e : Exp) (env : Environment) (c : core.Exp) (vals : List core_value.Value) : Type 0 where
+    pub places : List Place
+    pub code : Elaborates table b (scope places l vals) e c
+    pub names : EnvironmentBelongs known globals places env vals
+
+  pub record CodedAll (b : Bool) (l : Labels) (es : Exps) (env : Environment) (cs : core.Exps) (vals : List core_value.Value) : Type 0 where
+    pub places : List Place
+    pub code : ElaboratesAll table b (scope places l vals) es cs
+    pub names : EnvironmentBelongs known globals places env vals
+
+  -- behind a name of Core alone, which comes next
+  pub record CodedBeside (b : Bool) (l : Labels) (e : Exp) (env : Environment) (c : core.Exp) (vals : List core_value.Value) : Type 0 where
+    pub places : List Place
+    pub code : Elaborates table b (beside 1 (scope places l vals)) e c
+    pub names : EnvironmentBelongs known globals places env vals
+
+  -- a pattern on the next name, and what stands behind it
+  pub record CodedPattern (b : Bool) (l : Labels) (p : Pat) (e : Exp) (env : Environment) (c : core.Exp) (vals : List core_value.Value) : Type 0 where
+    pub places : List Place
+    pub body : core.Exp
+    pub code : Elaborates table b (behind (on_nearest p (scope places l vals)) (scope places l vals)) e body
+    pub is : c ≡ around_all (on_nearest p (scope places l vals)).checks fails body
+    pub names : EnvironmentBelongs known globals places env vals
+
+  -- the same under a name and a label of Core alone
+  pub record CodedTurn (b : Bool) (l : Labels) (p : Pat) (e : Exp) (env : Environment) (c : core.Exp) (vals : List core_value.Value) : Type 0 where
+    pub places : List Place
+    pub body : core.Exp
+    pub code : Elaborates table b (inside (behind (on_nearest p (beside 1 (scope places l vals))) (scope places l vals))) e body
+    pub is : c ≡ around_all (on_nearest p (beside 1 (scope places l vals))).checks fails body
+    pub names : EnvironmentBelongs known globals places env vals
+
+  -- the cases of a switch on the next name
+  pub record CodedCases (b : Bool) (l : Labels) (cases : Cases) (env : Environment) (c : core.Exp) (vals : List core_value.Value) : Type 0 where
+    pub places : List Place
+    pub code : ElaboratesCases table b (length vals) (inside (beside 1 (scope places l vals))) cases c
+    pub names : EnvironmentBelongs known globals places env vals
+
+  -- ---- stacks
+
+  -- Held is Core's weight to come on ends that cost nothing in the source. In functions of the program nothing waits, nor throws; the
+  -- body that was entered has so many nodes.
+  pub data StackBelongs (nodes : ℕ) : Bool → Labels → ℕ → Stack → List core_machine.Frame → Type 0 where
+    Bottom : (b : Bool) (held : ℕ) (joins : List core_machine.Frame) → Joins joins → StackBelongs nodes b no_labels held (Returning nodes ∷ []) (joins ++ [])
+    InFunction : (n : ℕ) (b : Bool) (l : Labels) (held : ℕ) (k : Stack) (joins ck : List core_machine.Frame)
+        → Joins joins → StackBelongs nodes b l held k ck → StackBelongs nodes false no_labels held (Returning n ∷ k) (joins ++ (Caller n None ∷ ck))
+    InOperands : (b : Bool) (l : Labels) (held : ℕ) (a : Action) (done : List Value) (rest : Exps) (env : Environment) (k : Stack) (before : List core_value.Value) (later : core.Exps) (vals : List core_value.Value) (ck : List core_machine.Frame)
+        → IsGoal b a → EachBelongs known done before → CodedAll b l rest env later vals → StackBelongs nodes b l held k ck
+        → StackBelongs nodes b l held (Operands a done rest env ∷ k) (Arguments (goal_at l a) before later vals ∷ ck)
+    -- a built-in function and its arguments, in one: what it holds, and then these
+    InMaking : (b : Bool) (l : Labels) (held : ℕ) (m : Member) (a : Action) (done : List Value) (rest args : Exps) (env : Environment) (k : Stack) (before : List core_value.Value) (later arguments : core.Exps) (vals : List core_value.Value) (ck : List core_machine.Frame)
+        → row_of m ≡ Some a → EachBelongs known done before → CodedAll b l rest env later vals → CodedAll b l args env arguments vals → StackBelongs nodes b l held k ck
+        → StackBelongs nodes b l held (Operands (action.BuiltIn m) done rest env ∷ Operands action.Call [] args env ∷ k) (Arguments (goal_at l a) before (append later arguments) vals ∷ ck)
+    InCalling : (b : Bool) (l : Labels) (held : ℕ) (m : Member) (a : Action) (holds : Values) (done : List Value) (rest : Exps) (env : Environment) (k : Stack) (before : List core_value.Value) (later : core.Exps) (vals : List core_value.Value) (ck : List core_machine.Frame)
+        → row_of m ≡ Some a → EachBelongs known (listed holds ++ done) before → CodedAll b l rest env later vals → StackBelongs nodes b l held k ck
+        → StackBelongs nodes b l held (Operands action.Call (BuiltIn m holds ∷ done) rest env ∷ k) (Arguments (goal_at l a) before later vals ∷ ck)
+    InChoosing : (b : Bool) (l : Labels) (held : ℕ) (x y : Exp) (env : Environment) (k : Stack) (c d : core.Exp) (vals : List core_value.Value) (ck : List core_machine.Frame)
+        → Coded b l x env c vals → Coded b l y env d vals → StackBelongs nodes b l held k ck
+        → StackBelongs nodes b l held (Choosing x y env ∷ k) (Arguments (Choose primitive.Copy c d) [] NoExp vals ∷ ck)
+    -- one case, which stands around nothing else
+    InLet : (b : Bool) (l : Labels) (held : ℕ) (p : Pat) (e : Exp) (env : Environment) (k : Stack) (c : core.Exp) (vals : List core_value.Value) (ck : List core_machine.Frame)
+        → CodedPattern b l p e env c vals → StackBelongs nodes b l held k ck
+        → StackBelongs nodes b l held (Switching (ACase p e NoCase) env ∷ k) (Arguments (Bind c) [] NoExp vals ∷ ck)
+    InSwitch : (b : Bool) (l : Labels) (held : ℕ) (cases : Cases) (env : Environment) (k : Stack) (c : core.Exp) (vals : List core_value.Value) (ck : List core_machine.Frame)
+        → CodedCases b l cases env c vals → StackBelongs nodes b l held k ck
+        → StackBelongs nodes b l held (Switching cases env ∷ k) (Arguments (Bind (core.Label c)) [] NoExp vals ∷ ck)
+    InLabel : (b : Bool) (l : Labels) (held : ℕ) (k : Stack) (ck : List core_machine.Frame)
+        → StackBelongs nodes b l held k ck → StackBelongs nodes b (with_label l) held (machine.Labelled ∷ k) (core_machine.Labelled ∷ ck)
+    InTesting : (b : Bool) (l : Labels) (held : ℕ) (x y : Exp) (env : Environment) (k : Stack) (c d : core.Exp) (vals : List core_value.Value) (ck : List core_machine.Frame)
+        → Coded b (with_own_label l) x env c vals → Coded b (with_own_label l) y env d vals → StackBelongs nodes b l held k ck
+        → StackBelongs nodes b (with_own_label l) held (Testing x y env ∷ k) (Arguments (Choose primitive.Copy d (break_with nothing)) [] NoExp vals ∷ Looping (while_of c d) vals ∷ core_machine.Labelled ∷ ck)
+    InTurning : (b : Bool) (l : Labels) (held : ℕ) (x y : Exp) (env : Environment) (k : Stack) (c d : core.Exp) (vals : List core_value.Value) (ck : List core_machine.Frame)
+        → Coded b (with_own_label l) x env c vals → Coded b (with_own_label l) y env d vals → StackBelongs nodes b l held k ck
+        → StackBelongs nodes b (with_own_label l) held (Turning x y env ∷ k) (Join ∷ Looping (while_of c d) vals ∷ core_machine.Labelled ∷ ck)
+    InRepeating : (b : Bool) (l : Labels) (held : ℕ) (y x : Exp) (env : Environment) (k : Stack) (d c : core.Exp) (vals : List core_value.Value) (ck : List core_machine.Frame)
+        → Coded b (with_own_label l) y env d vals → CodedBeside b (with_own_label l) x env c vals → StackBelongs nodes b l held k ck
+        → StackBelongs nodes b (with_own_label l) held (Repeating y x env ∷ k) (Arguments (Bind (if_true c nothing (break_with nothing))) [] NoExp vals ∷ Looping (repeat_of d c) vals ∷ core_machine.Labelled ∷ ck)
+    InRetesting : (b : Bool) (l : Labels) (held : ℕ) (y x : Exp) (env : Environment) (k : Stack) (d c : core.Exp) (v : core_value.Value) (vals : List core_value.Value) (ck : List core_machine.Frame)
+        → Coded b (with_own_label l) y env d vals → CodedBeside b (with_own_label l) x env c vals → StackBelongs nodes b l held k ck
+        → StackBelongs nodes b (with_own_label l) held (Retesting y x env ∷ k) (Arguments (Choose primitive.Copy nothing (break_with nothing)) [] NoExp (v ∷ vals) ∷ Looping (repeat_of d c) vals ∷ core_machine.Labelled ∷ ck)
+    InTry : (l : Labels) (held : ℕ) (p : Pat) (e : Exp) (env : Environment) (k : Stack) (c : core.Exp) (vals : List core_value.Value) (ck : List core_machine.Frame)
+        → CodedPattern true l p e env c vals → StackBelongs nodes true l held k ck
+        → StackBelongs nodes true l held (machine.Trying p e env ∷ k) (core_machine.Trying c vals ∷ ck)
+    InUpdating : (b : Bool) (l : Labels) (held : ℕ) (o : Operation) (e : Exp) (env : Environment) (k : Stack) (c : core.Exp) (vals : List core_value.Value) (ck : List core_machine.Frame)
+        → CodedBeside b l e env c vals → StackBelongs nodes b l held k ck
+        → StackBelongs nodes b l held (Updating o e env ∷ k) (Arguments (Bind (update_with o c)) [] NoExp vals ∷ ck)
+    InGoing : (b : Bool) (l : Labels) (held : ℕ) (p : Pat) (e : Exp) (env : Environment) (k : Stack) (c : core.Exp) (vals : List core_value.Value) (ck : List core_machine.Frame)
+        → CodedTurn b l p e env c vals → StackBelongs nodes b l held k ck
+        → StackBelongs nodes b l held (Going p e env ∷ k) (Arguments (Bind (core.Label (Loop (turn_with c)))) [] NoExp vals ∷ ck)
+    -- whether there is a further element, and the value of the body
+    InTurn : (b : Bool) (l : Labels) (held : ℕ) (p : Pat) (e : Exp) (env : Environment) (v : Value) (k : Stack) (c : core.Exp) (w : core_value.Value) (vals : List core_value.Value) (ck : List core_machine.Frame)
+        → Belongs known v w → CodedPattern b (with_own_label l) p e env c (w ∷ vals) → StackBelongs nodes b l held k ck
+        → StackBelongs nodes b (with_own_label l) held (Switching (turn_cases p e) env ∷ Stepping p v e env ∷ k)
+        (Arguments (Match constructor.Present c (break_with nothing)) [] NoExp (w ∷ vals) ∷ Looping (turn_with c) (w ∷ vals) ∷ core_machine.Labelled ∷ ck)
+    InBody : (b : Bool) (l : Labels) (held : ℕ) (p : Pat) (e : Exp) (env inner : Environment) (v : Value) (k : Stack) (c : core.Exp) (w : core_value.Value) (vals : List core_value.Value) (joins ck : List core_machine.Frame)
+        → Joins joins → Belongs known v w → CodedPattern b (with_own_label l) p e env c (w ∷ vals) → StackBelongs nodes b l held k ck
+        → StackBelongs nodes b (with_own_label l) held (Switching body_cases inner ∷ Joining ∷ Stepping p v e env ∷ k) (joins ++ (Looping (turn_with c) (w ∷ vals) ∷ core_machine.Labelled ∷ ck))
+    -- the end of a branch
+    InBranch : (b : Bool) (l : Labels) (held : ℕ) (k : Stack) (joins ck : List core_machine.Frame)
+        → Joins joins → StackBelongs nodes b l held k ck → StackBelongs nodes b l held (Joining ∷ k) (joins ++ ck)
+    -- the end of a case, which leaves the label of its switch
+    InCase : (b : Bool) (l : Labels) (held less : ℕ) (k : Stack) (vals : List core_value.Value) (skips ck : List core_machine.Frame)
+        → Passed skips → suc less ≤ held → StackBelongs nodes b l less k ck
+        → StackBelongs nodes b (with_own_label l) held (Joining ∷ k) (Arguments (Break 0) [] NoExp vals ∷ (skips ++ (core_machine.Labelled ∷ ck)))
+
+  -- ---- what was made
+
+  pub record FunctionsBelong (fns : Functions) (env : Environment) (made : MadeGroup) : Type 0 where
+    pub places : List Place
+    pub labels : Labels
+    pub bodies : List Body
+    pub there : slice_get table made.code ≡ Some (record { sees = length made.seen; bodies = bodies })
+    pub code : ElaboratesFunctions table (under (count fns) (scope places labels made.seen)) fns bodies
+    pub names : EnvironmentBelongs known globals places env made.seen
+
+  -- a built-in function as a value: a group of one function, which has no nodes
+  pub record MemberBelongs (m : Member) (holds : Values) (made : MadeGroup) : Type 0 where
+    pub a : Action
+    pub is : alone m ≡ Some a
+    pub empty : holds ≡ NoValue
+    pub there : slice_get table made.code ≡ Some (record { sees = length made.seen; bodies = function_body a ∷ [] })
+
+  abbrev pub GroupBelongs : Known → MadeGroup → Type 0
+  GroupBelongs (OfFunctions fns env) made = FunctionsBelong fns env made
+  GroupBelongs (OfMember m holds) made = MemberBelongs m holds made
+
+  pub record GroupsBelong (made : List MadeGroup) : Type 0 where
+    pub as_many : length made ≡ length known
+    pub each : (i : ℕ) (k : Known) → slice_get known i ≡ Some k → (m : MadeGroup) × (slice_get made i ≡ Some m) × GroupBelongs k m
+
+  pub record WorldBelongs (store : Store) (world : World) : Type 0 where
+    pub cells : EachBelongs known store world.store
+    pub groups : GroupsBelong world.groups
+
+-- ---- states
+
+module _ (program : Core) (context : Context) (nodes : ℕ) (world : World) (known : List Known) where
+  abbrev pub Code : Bool → Labels → Exp → Environment → core.Exp → List core_value.Value → Type 0
+  Code = Coded program.groups known context.globals
+
+  abbrev pub Around : Bool → Labels → ℕ → Stack → List core_machine.Frame → Type 0
+  Around = StackBelongs program.groups known context.globals nodes
+
+  -- Core stands before what the action does, or comes there by steps that are paid
+  pub record Acting (held : ℕ) (a : Action) (vs : List Value) (k : Stack) (f : core_machine.Focus) (ck : List core_machine.Frame) : Type 0 where
+    pub b : Bool
+    pub l : Labels
+    pub values : List core_value.Value
+    pub vals : List core_value.Value
+    pub weight : ℕ
+    pub less : ℕ
+    pub f' : core_machine.Focus
+    pub ck' : List core_machine.Frame
+    pub others : List core_machine.Frame
+    pub arguments : EachBelongs known vs values
+    pub may : IsGoal b a
+    pub path : Comes program context nodes world weight f ck f' ck'
+    pub acts : focused program context nodes world f' ck' ≡ act program context nodes world (goal_at l a) values vals others
+    pub level : depth_of ck' ≡ depth_of others
+    pub paid : weight + less ≤ held + spare a
+    pub around : Around b l less k others
+
+  -- what comes behind values that stand ready: further operands, or what is done
+  abbrev pub with_operands : core.Goal → List core_value.Value → core.Exps → List core_value.Value → List core_machine.Frame → Did
+  with_operands goal values NoExp vals k = act program context nodes world goal values vals k
+  with_operands goal values (AnExp e es) vals k = core_machine.move program context nodes world (core_machine.Eval e vals) (Arguments goal values es vals ∷ k)
+
+  -- what a built-in function holds stands ready
+  pub record Calling (held : ℕ) (m : Member) (vs : List Value) (args : Exps) (env : Environment) (k : Stack) (f : core_machine.Focus) (ck : List core_machine.Frame) : Type 0 where
+    pub b : Bool
+    pub l : Labels
+    pub a : Action
+    pub values : List core_value.Value
+    pub arguments : core.Exps
+    pub vals : List core_value.Value
+    pub others : List core_machine.Frame
+    pub row : row_of m ≡ Some a
+    pub belongs : EachBelongs known vs values
+    pub code : CodedAll program.groups known context.globals b l args env arguments vals
+    pub acts : focused program context nodes world f ck ≡ with_operands (goal_at l a) values arguments vals others
+    pub level : depth_of ck ≡ depth_of others
+    pub around : Around b l held k others
+
+  -- and its arguments
+  pub record Applied (held : ℕ) (a : Action) (vs : List Value) (k : Stack) (f : core_machine.Focus) (ck : List core_machine.Frame) : Type 0 where
+    pub b : Bool
+    pub l : Labels
+    pub values : List core_value.Value
+    pub vals : List core_value.Value
+    pub others : List core_machine.Frame
+    pub belongs : EachBelongs known vs values
+    pub acts : focused program context nodes world f ck ≡ act program context nodes world (goal_at l a) values vals others
+    pub level : depth_of ck ≡ depth_of others
+    pub around : Around b l held k others
+
+  pub data StateBelongs (held : ℕ) : machine.Focus → Stack → core_machine.Focus → List core_machine.Frame → Type 0 where
+    AtCode : (b : Bool) (l : Labels) (e : Exp) (env : Environment) (k : Stack) (c : core.Exp) (vals : List core_value.Value) (ck : List core_machine.Frame)
+        → Code b l e env c vals → Around b l held k ck → StateBelongs held (machine.Eval e env) k (core_machine.Eval c vals) ck
+    -- a loop goes on
+    AtWhile : (b : Bool) (l : Labels) (x y : Exp) (env : Environment) (k : Stack) (c d : core.Exp) (vals : List core_value.Value) (ck : List core_machine.Frame)
+        → Code b (with_own_label l) x env c vals → Code b (with_own_label l) y env d vals → Around b l held k ck
+        → StateBelongs held (machine.Eval (While x y) env) k (core_machine.Eval (while_of c d) vals) (Looping (while_of c d) vals ∷ core_machine.Labelled ∷ ck)
+    AtRepeat : (b : Bool) (l : Labels) (y x : Exp) (env : Environment) (k : Stack) (d c : core.Exp) (vals : List core_value.Value) (ck : List core_machine.Frame)
+        → Code b (with_own_label l) y env d vals → CodedBeside program.groups known context.globals b (with_own_label l) x env c vals → Around b l held k ck
+        → StateBelongs held (machine.Eval (Repeat y x) env) k (core_machine.Eval (repeat_of d c) vals) (Looping (repeat_of d c) vals ∷ core_machine.Labelled ∷ ck)
+    AtAction : (a : Action) (vs : List Value) (k : Stack) (f : core_machine.Focus) (ck : List core_machine.Frame) → Acting held a vs k f ck → StateBelongs held (Ready a vs) k f ck
+    AtValue : (b : Bool) (l : Labels) (v : Value) (w : core_value.Value) (k : Stack) (ck : List core_machine.Frame)
+        → Belongs known v w → Around b l held k ck → StateBelongs held (machine.Give v) k (core_machine.Give w) ck
+    -- the last value, which Core pays for
+    AtEnd : (v : Value) (w : core_value.Value) (f : core_machine.Focus) (ck : List core_machine.Frame)
+        → Belongs known v w → focused program context nodes world f ck ≡ Ends (weighing 1) [] world (Replies w) → 1 ≤ held → depth_of ck ≡ 0 → StateBelongs held (machine.Give v) [] f ck
+    -- a turn of a `for`: its body, the truth value behind it, and the object again
+    AtBody : (b : Bool) (l : Labels) (p : Pat) (e : Exp) (env inner : Environment) (v : Value) (k : Stack) (c d : core.Exp) (w : core_value.Value) (vals vals' : List core_value.Value) (joins ck : List core_machine.Frame)
+        → Joins joins → Belongs known v w → CodedPattern program.groups known context.globals b (with_own_label l) p e env c (w ∷ vals) → Code b (with_own_label l) e inner d vals' → Around b l held k ck
+        → StateBelongs held (machine.Eval (then e (Val true_value)) inner) (Joining ∷ Stepping p v e env ∷ k) (core_machine.Eval d vals') (joins ++ (Looping (turn_with c) (w ∷ vals) ∷ core_machine.Labelled ∷ ck))
+    AtTurned : (b : Bool) (l : Labels) (p : Pat) (e : Exp) (env : Environment) (v : Value) (k : Stack) (c : core.Exp) (w : core_value.Value) (vals : List core_value.Value) (ck : List core_machine.Frame) (f : machine.Focus) (more : Stack)
+        → Passing true (Stepping p v e env ∷ k) f more → Belongs known v w → CodedPattern program.groups known context.globals b (with_own_label l) p e env c (w ∷ vals) → Around b l held k ck
+        → StateBelongs held f more (core_machine.Eval (turn_with c) (w ∷ vals)) (Looping (turn_with c) (w ∷ vals) ∷ core_machine.Labelled ∷ ck)
+    AtGoing : (b : Bool) (l : Labels) (p : Pat) (e : Exp) (env : Environment) (v : Value) (k : Stack) (c : core.Exp) (w : core_value.Value) (vals : List core_value.Value) (ck : List core_machine.Frame)
+        → Belongs known v w → CodedPattern program.groups known context.globals b (with_own_label l) p e env c (w ∷ vals) → Around b l held k ck
+        → StateBelongs held (machine.Give v) (Going p e env ∷ k) (core_machine.Eval (next_of (core.Name 0)) (w ∷ vals))
+        (Arguments (Match constructor.Present c (break_with nothing)) [] NoExp (w ∷ vals) ∷ Looping (turn_with c) (w ∷ vals) ∷ core_machine.Labelled ∷ ck)
+    -- its end, where Core has left already
+    AtLeft : (b : Bool) (l : Labels) (p : Pat) (e : Exp) (env : Environment) (v : Value) (k : Stack) (ck : List core_machine.Frame) (f : machine.Focus) (more : Stack)
+        → Passing false (Stepping p v e env ∷ k) f more → Around b l held k ck → StateBelongs held f more (core_machine.Give unit) ck
+    -- a call of a built-in function: before its operands, behind those, as a value, where it is called, inside it, and its value
+    AtCallee : (b : Bool) (l : Labels) (m : Member) (a : Action) (es args : Exps) (env : Environment) (k : Stack) (later arguments : core.Exps) (vals : List core_value.Value) (ck : List core_machine.Frame)
+        → row_of m ≡ Some a → CodedAll program.groups known context.globals b l es env later vals → CodedAll program.groups known context.globals b l args env arguments vals → Around b l held k ck
+        → StateBelongs held (machine.Eval (source.Do (action.BuiltIn m) es) env) (Operands action.Call [] args env ∷ k) (core_machine.Eval (core.Do (goal_at l a) (append later arguments)) vals) ck
+    AtMaking : (m : Member) (vs : List Value) (args : Exps) (env : Environment) (k : Stack) (f : core_machine.Focus) (ck : List core_machine.Frame)
+        → Calling held m vs args env k f ck → StateBelongs held (Ready (action.BuiltIn m) vs) (Operands action.Call [] args env ∷ k) f ck
+    AtMade : (m : Member) (holds : Values) (args : Exps) (env : Environment) (k : Stack) (f : core_machine.Focus) (ck : List core_machine.Frame)
+        → Calling held m (listed holds) args env k f ck → StateBelongs held (machine.Give (BuiltIn m holds)) (Operands action.Call [] args env ∷ k) f ck
+    AtApplied : (m : Member) (a : Action) (holds : Values) (vs : List Value) (k : Stack) (f : core_machine.Focus) (ck : List core_machine.Frame)
+        → row_of m ≡ Some a → Applied held a (listed holds ++ vs) k f ck → StateBelongs held (Ready action.Call (BuiltIn m holds ∷ vs)) k f ck
+    AtInner : (m : Member) (a : Action) (vs : List Value) (k : Stack) (f : core_machine.Focus) (ck : List core_machine.Frame)
+        → row_of m ≡ Some a → Applied held a vs k f ck → StateBelongs held (Ready a vs) (Returning 0 ∷ k) f ck
+    AtBack : (b : Bool) (l : Labels) (v : Value) (w : core_value.Value) (k : Stack) (ck : List core_machine.Frame)
+        → Belongs known v w → Around b l held k ck → StateBelongs held (machine.Give v) (Returning 0 ∷ k) (core_machine.Give w) ck
+    -- a built-in function is made
+    AtFunction : (b : Bool) (l : Labels) (m : Member) (a : Action) (n : ℕ) (k : Stack) (vals : List core_value.Value) (ck : List core_machine.Frame)
+        → alone m ≡ Some a → slice_get program.groups n ≡ Some (record { sees = length vals; bodies = function_body a ∷ [] }) → Around b l held k ck
+        → StateBelongs held (Ready (action.BuiltIn m) []) k (core_machine.Eval (core.Functions n (core.Name 0)) vals) ck
