@@ -1,0 +1,9 @@
+pub mod Books
+pub mod Leaving
+pub mod Ends
+pub mod Running
+pub mod Methods
+pub mod Filling
+pub mod Lives
+pub mod Calling
+pub mod Answering

@@ -1,0 +1,6 @@
+//! Motoko values as Candid values and back, part by part.
+#![tactic(auto)]
+
+mod laws;
+
+pub use laws::{forms_by_parts, values_by_parts};
