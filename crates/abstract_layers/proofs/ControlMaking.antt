@@ -10,7 +10,7 @@ use Rattle.typing_rules.specs.AbstractSyntax as p
 use Rattle.typing_rules.specs.Spans.{flag, led, at_led, listed_from, listed_size}
 use Rattle.typing_rules.specs.AbstractTypes.{annotation, in_type}
 use Rattle.typing_rules.specs.AbstractPatterns.{in_pattern}
-use Rattle.typing_rules.specs.AbstractExpressions.{CaseSpan, DeclarationSpan, ExpressionSpan, MemberSpan, ObjectFieldSpan, arguments_size, braces_size, conditional, expressions, expression_step, items_at, signature_span, type_arguments}
+use Rattle.typing_rules.specs.AbstractExpressions.{CaseSpan, DeclarationSpan, ExpressionSpan, MemberSpan, ObjectFieldSpan, arguments_size, braces_size, conditional, expressions, expression_step, signature_span, type_arguments}
 use Rattle.typing_rules.specs.AbstractExpressions as rules
 use Rattle.abstract_types.specs.declared.patterns.Pattern.{Pattern}
 use Rattle.abstract_types.specs.declared.patterns.Signature.{Signature}

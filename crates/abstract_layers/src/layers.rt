@@ -1,6 +1,6 @@
 //! The layers of expressions: each is walked over by the walks over what stands in it. `at` is the number of a token, and what is
 //! asked for stands so many tokens behind it.
-ghost use Rattle.std.specs.Prelude.{◌≢◌, ◌+◌, IfOk, map, option_map, length};
+ghost use Rattle.std.specs.Prelude.{◌≢◌, IfOk, map, option_map, length};
 ghost use Rattle.mo_syntax.specs.declared.declarations.Declaration.TheOpen as written;
 ghost use Rattle.typing_rules.specs.AbstractExpressions as rules;
 ghost use Rattle.typing_rules.specs.AbstractExpressions.{expression_step, in_expression};

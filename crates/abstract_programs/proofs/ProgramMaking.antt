@@ -1,5 +1,5 @@
 -- The fields of an actor, by what is made of their parts.
-use Rattle.std.proofs.Common.{◌≡◌, ℕ, ◌+◌, Bool, true, false, Option, option_map, ap, ◌∙◌, refl, arith}
+use Rattle.std.proofs.Common.{◌≡◌, ℕ, ◌+◌, Bool, true, false, Option, option_map, ap, ◌∙◌, arith}
 use Rattle.mo_syntax.specs.declared.declarations.Declaration as written_declaration
 use Rattle.mo_syntax.specs.declared.expressions.Expression as written_expression
 use Rattle.mo_syntax.specs.declared.name.Name.{Name}

@@ -1,5 +1,5 @@
 -- The rule of annotated expressions by its parts.
-use Rattle.std.proofs.Common.{◌≡◌, ◌∙◌, ℕ, Bool, true, false, List, Ok, Err, Option, Some, None, is_some, refl, sym, ap, subst}
+use Rattle.std.proofs.Common.{◌≡◌, ◌∙◌, ℕ, Bool, true, false, Ok, Err, Some, None, is_some, sym, ap, subst}
 use Rattle.std.specs.Prelude.{Result}
 use Rattle.std.specs.Result.{IsErr, IsErrAnd}
 use Rattle.mo_types.specs.Heads.{actor_of}
@@ -10,7 +10,6 @@ use Rattle.typing_rules.specs.AbstractSyntax as p
 use Rattle.typing_rules.specs.Expressions.{actor_text}
 use Rattle.typing_rules.specs.Heads.{head}
 use Rattle.typing_rules.specs.Judgements.{Judgement, Fine, Gives, IsPrincipal, Needs, Part, Tests}
-use Rattle.typing_rules.specs.Terms.{Term}
 use Rattle.typing_rules.specs.TypedTrees.{Typed, place, typed}
 use Rattle.typing_rules.specs.Ends.{Has}
 use Rattle.type_definitions.specs.Meanings.{term}

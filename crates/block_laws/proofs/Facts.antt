@@ -1,29 +1,11 @@
 -- What a list is made of is what is asked of lists in the order of evaluation.
-use Rattle.std.proofs.Common.{◌≡◌, ◌⊎◌, inl, inr, ℕ, zero, suc, ◌<◌, Bool, true, false, List, [], ◌∷◌, ◌++◌, length, map, Option, Some, None, refl, sym, ap, ◌∙◌, subst, arith}
-use Rattle.mo_scopes.specs.Scopes.{named}
+use Rattle.std.proofs.Common.{◌≡◌, inl, inr, ℕ, zero, suc, ◌<◌, List, [], ◌∷◌, ◌++◌, Some, refl, sym, ap, ◌∙◌, subst, arith}
 use Rattle.mo_types.specs.declared.node.TypeId.{TypeId}
-use Rattle.mo_types.specs.Graph.{Slot, head_at}
-use Rattle.subtype_laws.specs.Reached.{Among}
-use Rattle.typed_tree.specs.ActionTypes as typed
-use Rattle.typed_tree.specs.OperationTypes.{Distinct}
-use Rattle.typed_tree.specs.Placing.{Declared, place}
-use Rattle.typed_tree.specs.Typing.{Signature}
-use Rattle.typed_tree.specs.Wants.{Want, Of}
-use Rattle.typing_rules.specs.AbstractSyntax.{Bytes, Declaration, Declarations}
-use Rattle.typing_rules.specs.AbstractSyntax as p
-use Rattle.typing_rules.specs.Contexts.{Bound, Scope, Context, directly}
-use Rattle.typing_rules.specs.Definitions.{Definitions}
-use Rattle.typing_rules.specs.Lists.{Entry as Given, of_expression}
-use Rattle.typing_rules.specs.Terms.{Term, unit}
-use Rattle.typing_rules.specs.TypedTrees.{Note}
-use Rattle.typing_rules.specs.TypeScopes.{TypeScope}
-use Rattle.desugaring.specs.Frames.{Frame}
-use Rattle.desugaring.specs.Pieces.{Becomes, AStep, AFunction, AnExpression, Nothing}
-use Rattle.declaration_laws.specs.Made.{FunctionMade, StepMade, ValueMade}
+use Rattle.typed_tree.specs.Wants.{Want}
+use Rattle.typing_rules.specs.AbstractSyntax.{Bytes}
+use Rattle.typing_rules.specs.Contexts.{Bound, Scope}
 use Rattle.list_laws.specs.Facts.{Fact, Evaluates, IsFunction, Other, FunctionBefore, scope_at, nth}
-use Rattle.block_laws.specs.Lists.{IsMade, AreMade, behind}
-use Rattle.block_laws.specs.Order.{fact_of, facts_of, first_scope, others}
-use Rattle.block_laws.proofs.Keeping.{BindsOnly, AllBindOnly}
+use Rattle.block_laws.specs.Lists.{behind}
 use Rattle.block_laws.proofs.Naming.{IsBoundIn, AllBoundIn}
 
 -- ---- places in a list of facts

@@ -1,5 +1,5 @@
 -- Names of lists whose names differ: what they are bound to.
-use Rattle.std.proofs.Common.{◌≡◌, ◌≢◌, ◌⊎◌, inl, inr, ℕ, zero, suc, List, [], ◌∷◌, ◌++◌, length, Some, refl, sym, ap, ◌∙◌}
+use Rattle.std.proofs.Common.{◌≡◌, ◌≢◌, ◌⊎◌, inl, inr, ℕ, zero, suc, List, [], ◌∷◌, ◌++◌, length, refl, sym, ◌∙◌}
 use Rattle.mo_scopes.specs.Scopes.{named}
 use Rattle.subtype_laws.specs.Reached.{Among}
 use Rattle.typed_tree.specs.OperationTypes.{Distinct}

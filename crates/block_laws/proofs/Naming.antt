@@ -18,7 +18,7 @@ use Rattle.typing_rules.specs.TypedTrees.{Note}
 use Rattle.typing_rules.specs.TypeScopes.{TypeScope}
 use Rattle.desugaring.specs.FreeNames.{names_of, names_of_list, declared}
 use Rattle.expression_laws.proofs.Forms.{in_left, in_right}
-use Rattle.list_laws.specs.Facts.{Fact, Evaluates, IsFunction, Other, FunctionBefore}
+use Rattle.list_laws.specs.Facts.{Fact, IsFunction, FunctionBefore}
 use Rattle.list_laws.proofs.Reaching.{unequal}
 use Rattle.declaration_laws.specs.Laws.{own_of}
 use Rattle.block_laws.specs.Lists.{method_term, signed_one, signed}

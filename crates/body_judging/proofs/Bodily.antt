@@ -1,12 +1,11 @@
 -- What is judged as the body of a function.
-use Rattle.std.proofs.Common.{◌≡◌, inr, ℕ, List, [], ◌∷◌, ◌++◌, Ok, Err, Some, refl, sym, ap, subst}
+use Rattle.std.proofs.Common.{◌≡◌, inr, ℕ, List, [], Ok, Err, Some, refl, sym, ap, subst}
 use Rattle.std.specs.Prelude.{OnOk, Result}
 use Rattle.type_terms.specs.declared.form.Form.{Form}
 use Rattle.type_terms.specs.declared.form.TermId.{TermId}
 use Rattle.typing_rules.specs.AbstractSyntax.{Bytes, Expression}
-use Rattle.typing_rules.specs.Contexts.{Context, Scope, in_body, with_types}
+use Rattle.typing_rules.specs.Contexts.{Scope, in_body, with_types}
 use Rattle.typing_rules.specs.Expressions.{Judge}
-use Rattle.typing_rules.specs.Terms.{Term}
 use Rattle.typing_rules.specs.TypeScopes.{TypeScope}
 use Rattle.type_definitions.specs.Definitions.{Listed, rules_in}
 use Rattle.type_definitions.specs.Meanings.{term}

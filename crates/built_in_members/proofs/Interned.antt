@@ -16,11 +16,11 @@ use Rattle.type_terms.specs.Layouts.{layout, parts}
 use Rattle.type_terms.specs.Tables.{PartsBelow}
 use Rattle.typing_rules.specs.Contexts.{Bound}
 use Rattle.typing_rules.specs.Members.{error_code, function, member_bound, nat32, refusal}
-use Rattle.typing_rules.specs.Terms.{Term, Fields, unlisted}
+use Rattle.typing_rules.specs.Terms.{Term, unlisted}
 use Rattle.typing_rules.specs.Terms as t
-use Rattle.type_definitions.specs.Meanings.{fields_at, term, term_of}
+use Rattle.type_definitions.specs.Meanings.{fields_at, term}
 use Rattle.type_definitions.specs.Tables.{IsTermOf, Later, Makes, Within}
-use Rattle.type_definitions.proofs.Meanings.{each_map, forms_alike, grows_not, grows_on, later_on, term_stays, within_on}
+use Rattle.type_definitions.proofs.Meanings.{forms_alike, grows_not, grows_on, later_on, term_stays, within_on}
 use Rattle.met_types.specs.States.{State, Goes, Kept, Stands}
 use Rattle.built_in_members.specs.Codes.{code_tags}
 use Rattle.built_in_members.specs.declared.value_members.ValueMember.{ValueMember}

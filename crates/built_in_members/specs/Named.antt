@@ -3,7 +3,6 @@ use Rattle.std.specs.Prelude.{List, [], ◌∷◌, codes}
 use Rattle.typing_rules.specs.AbstractSyntax.{Bytes}
 use Rattle.typing_rules.specs.Members.{function, iterator}
 use Rattle.typing_rules.specs.Terms.{Term, nat}
-use Rattle.typing_rules.specs.Terms as t
 use Rattle.built_in_members.specs.declared.value_members.ValueMember.{ValueMember}
 use Rattle.built_in_members.specs.declared.value_members.ValueMember.TheVariants as member
 

@@ -1,5 +1,5 @@
 -- Types that are written out as terms.
-use Rattle.std.specs.Prelude.{◌≡◌, ℕ, false, List, [], ◌∷◌, Option, Some, None}
+use Rattle.std.specs.Prelude.{◌≡◌, false, List, [], ◌∷◌, Option, Some, None}
 use Rattle.mo_scopes.specs.declared.library.Member.{Member}
 use Rattle.mo_types.specs.declared.node.Field.{Field}
 use Rattle.type_terms.specs.declared.form.Form.{Form}

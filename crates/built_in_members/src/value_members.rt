@@ -1,5 +1,5 @@
 //! The types of members of arrays and texts.
-ghost use Rattle.std.specs.Prelude.{◌≡◌, [], List, IfOk};
+ghost use Rattle.std.specs.Prelude.{◌≡◌, [], IfOk};
 ghost use Rattle.mo_scopes.specs.Scopes.{named};
 ghost use Rattle.typing_rules.specs.Terms.{Term, nat};
 ghost use Rattle.typing_rules.specs.Members as rules;

@@ -18,7 +18,7 @@ use Rattle.typing_rules.specs.Contexts.{Context, Scope, directly, with_values}
 use Rattle.typing_rules.specs.Expressions.{Judge, Rule, JudgeCases}
 use Rattle.typing_rules.specs.Heads.{head}
 use Rattle.typing_rules.specs.Patterns.{Stands}
-use Rattle.typing_rules.specs.Terms.{Term, unit}
+use Rattle.typing_rules.specs.Terms.{Term}
 use Rattle.typing_rules.specs.Terms as t
 use Rattle.typing_rules.specs.TypedTrees.{Note, type_of, case_types}
 use Rattle.desugaring.specs.Expressions.{tree as written_out, case_trees}

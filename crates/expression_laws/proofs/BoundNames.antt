@@ -1,6 +1,6 @@
 -- The names of a pattern, before and after it is judged.
 use Rattle.std.proofs.Common.{◌≡◌, ℕ, true, false, List, [], ◌∷◌, ◌++◌, refl, sym, ap₂, ◌∙◌}
-use Rattle.typing_rules.specs.AbstractSyntax.{Bytes, Pattern, Patterns, PatternFields}
+use Rattle.typing_rules.specs.AbstractSyntax.{Pattern, Patterns, PatternFields}
 use Rattle.typing_rules.specs.AbstractSyntax as p
 use Rattle.mo_types.specs.declared.node.Field.{Field}
 use Rattle.mo_types.specs.Heads.{opt_of, tuple_of, object_of, variant_of}

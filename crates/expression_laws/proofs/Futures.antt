@@ -12,7 +12,7 @@ use Rattle.typed_tree.specs.Instances.{MentionsOnly}
 use Rattle.typed_tree.specs.Typing.{Typed}
 use Rattle.typed_tree.specs.TypingLaws.{form_typing}
 use Rattle.typed_tree.specs.Wants.{Want, Of, CellOf, FutureOf}
-use Rattle.typing_rules.specs.AbstractSyntax.{Bytes, Expression, Expressions}
+use Rattle.typing_rules.specs.AbstractSyntax.{Bytes, Expression}
 use Rattle.typing_rules.specs.AbstractSyntax as p
 use Rattle.typing_rules.specs.AsyncPlaces.{Body, Update, Query, Local, Around, Awaited, Named, Labelled, Other, calls, takes_call, takes_name, FuturePlaced}
 use Rattle.typing_rules.specs.Contexts.{Bound, directly, value_named}

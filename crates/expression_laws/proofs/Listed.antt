@@ -16,7 +16,7 @@ use Rattle.typed_tree.specs.Instances.{MentionsOnly}
 use Rattle.typed_tree.specs.Typing.{EachGives, Typed}
 use Rattle.typed_tree.specs.Wants.{Of, CellOf}
 use Rattle.typing_rules.specs.declared.condition.Condition.TheVariants as condition
-use Rattle.typing_rules.specs.AbstractSyntax.{Expression, Expressions}
+use Rattle.typing_rules.specs.AbstractSyntax.{Expressions}
 use Rattle.typing_rules.specs.AbstractSyntax as p
 use Rattle.typing_rules.specs.AsyncPlaces.{Other}
 use Rattle.typing_rules.specs.Contexts.{directly}

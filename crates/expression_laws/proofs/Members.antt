@@ -42,7 +42,7 @@ use Rattle.typing_rules.specs.Terms.{Term, nat}
 use Rattle.typing_rules.specs.Terms as t
 use Rattle.typing_rules.specs.TypedTrees.{type_of}
 use Rattle.desugaring.specs.Expressions.{member_of}
-use Rattle.desugaring.specs.Nodes.{array_method, text_method, held, operates}
+use Rattle.desugaring.specs.Nodes.{array_method, text_method, operates}
 use Rattle.desugaring.specs.Nodes as nodes
 use Rattle.desugaring_laws.specs.Known.{IsFine}
 use Rattle.desugaring_laws.specs.Yields.{Yields}

@@ -16,7 +16,7 @@ use Rattle.typed_tree.specs.Instances.{MentionsOnly}
 use Rattle.typed_tree.specs.Typing.{Typed}
 use Rattle.typed_tree.specs.Wants.{Want, Of, FutureOf}
 use Rattle.typed_tree.proofs.Rules.{steps}
-use Rattle.typing_rules.specs.AbstractSyntax.{Bytes, Expression, Expressions}
+use Rattle.typing_rules.specs.AbstractSyntax.{Bytes, Expression}
 use Rattle.typing_rules.specs.AbstractSyntax as p
 use Rattle.mo_types.specs.declared.node.Sort.TheVariants as sort
 use Rattle.typing_rules.specs.AsyncPlaces.{Body, Update, Query, Local, Around, Awaited, Other, waits}
@@ -24,7 +24,7 @@ use Rattle.typing_rules.specs.Contexts.{Context, Label, directly}
 use Rattle.typing_rules.specs.Ends.{wanted}
 use Rattle.typing_rules.specs.Expressions.{Judge, Rule}
 use Rattle.typing_rules.specs.Heads.{head}
-use Rattle.typing_rules.specs.Terms.{Term, unit, listed, unlisted}
+use Rattle.typing_rules.specs.Terms.{Term, unit}
 use Rattle.typing_rules.specs.Terms as t
 use Rattle.typing_rules.specs.TypedTrees.{Note, type_of}
 use Rattle.desugaring.specs.FreeNames.{occurring}

@@ -1,5 +1,5 @@
 //! The names in scope where a program begins: those of its imports, and its own.
-ghost use Rattle.std.specs.Prelude.{◌≡◌, ◌++◌, List, IfOk, OnOk, map};
+ghost use Rattle.std.specs.Prelude.{◌≡◌, List, IfOk, OnOk, map};
 ghost use Rattle.type_terms.specs.declared.form.Form.{Form};
 ghost use Rattle.typing_rules.specs.DeclaredTypes.{with_list};
 ghost use Rattle.typing_rules.specs.Programs.{first_context, method_fields};

@@ -1,5 +1,5 @@
 //! Functions without names.
-ghost use Rattle.std.specs.Prelude.{[], length, map, nat_eq};
+ghost use Rattle.std.specs.Prelude.{[], length, nat_eq};
 ghost use Rattle.mo_types.specs.Sub.{Each};
 ghost use Rattle.typing_rules.specs.AbstractSyntax as syntax;
 ghost use Rattle.typing_rules.specs.declared.condition.Condition.TheVariants as condition;

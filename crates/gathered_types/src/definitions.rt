@@ -2,7 +2,7 @@
 //! "Type parameters").
 ghost use Rattle.std.specs.Prelude.{◌≡◌, IfOk, OnOk, map};
 ghost use Rattle.typing_rules.specs.DeclaredTypes.{with_list, within};
-ghost use Rattle.typing_rules.specs.Gathered.{class_object, defined, of_generics};
+ghost use Rattle.typing_rules.specs.Gathered.{defined, of_generics};
 ghost use Rattle.typing_rules.specs.TypeScopes.{names_of, term, with_parameters};
 ghost use Rattle.met_types.specs.States.{Kept};
 ghost use Rattle.type_scopes.specs.Scopes.{seen};

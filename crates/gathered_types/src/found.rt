@@ -1,5 +1,5 @@
 //! Definitions and bounds that are found one after another.
-ghost use Rattle.std.specs.Prelude.{◌≡◌, [], ◌∷◌, ◌++◌, IfOk, OnOk};
+ghost use Rattle.std.specs.Prelude.{◌≡◌, [], IfOk, OnOk};
 ghost use Rattle.gathered_types.specs.Finding.{joined, one_bound, one_type};
 ghost use Rattle.type_definitions.specs.Definitions.{listed};
 

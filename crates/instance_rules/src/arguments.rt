@@ -1,5 +1,5 @@
 //! The types of functions with type parameters at type arguments.
-ghost use Rattle.std.specs.Prelude.{◌≡◌, length, map, IfOk, OnOk};
+ghost use Rattle.std.specs.Prelude.{◌≡◌, length, map, OnOk};
 ghost use Rattle.mo_types.specs.Sub.{Each};
 ghost use Rattle.type_definitions.specs.Tables.{Within};
 ghost use Rattle.met_types.specs.States.{IsReached, Kept};

@@ -1,5 +1,5 @@
 //! Bounds of type parameters, with type arguments in the place of parameters.
-ghost use Rattle.std.specs.Prelude.{◌≡◌, List, IfOk, OnOk, true};
+ghost use Rattle.std.specs.Prelude.{◌≡◌, IfOk, true};
 ghost use Rattle.mo_types.specs.Sub.{Each};
 ghost use Rattle.type_definitions.specs.Tables.{Within};
 ghost use Rattle.met_types.specs.States.{Kept};

@@ -1,5 +1,5 @@
 //! Patterns on the items that are gone over, with the bodies of loops.
-ghost use Rattle.std.specs.Prelude.{◌≡◌, OnOk};
+ghost use Rattle.std.specs.Prelude.{OnOk};
 ghost use Rattle.met_types.specs.States.{IsReached};
 ghost use Rattle.abstract_types.specs.PatternView.{plain as plain_pattern};
 ghost use Rattle.abstract_tree.specs.TreeView.{plain};

@@ -1,8 +1,6 @@
 -- What is assigned to, by what it is, and numbers with their signs.
 use Rattle.std.proofs.Common.{◌≡◌, ◌∙◌, ℕ, true, List, [], ◌∷◌, Option, Some, None, refl, sym, ap}
-use Rattle.std.specs.Prelude.{Result, IfOk}
 use Rattle.mo_types.specs.declared.node.TypeId.{TypeId}
-use Rattle.mo_values.specs.declared.operation.Operation.{Operation}
 use Rattle.mo_values.specs.declared.operation.Operation.TheVariants as op
 use Rattle.typed_tree.specs.declared.action.Action.TheVariants as action
 use Rattle.typed_tree.specs.declared.expression.Form.TheOpen as F
@@ -17,7 +15,6 @@ use Rattle.abstract_tree.specs.declared.expressions.ExpressionForm.{ExpressionFo
 use Rattle.abstract_tree.specs.TreeView.{expression_form}
 use Rattle.value_scopes.specs.declared.note.Note as value_note
 use Rattle.value_scopes.specs.Values.{noted}
-use Rattle.type_definitions.specs.Meanings.{term}
 use Rattle.met_types.specs.States.{State}
 use Rattle.judged_parts.proofs.TreeViews.{expression_is}
 use Rattle.desugaring.specs.Expressions.{assigned, cell_tree, form, negative_of, tree}

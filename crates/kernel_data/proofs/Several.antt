@@ -1,6 +1,5 @@
 -- Several parts as they are made.
 use Rattle.std.proofs.Common.{◌≡◌, ◌∙◌, ℕ, zero, ◌+◌, ◌<◌, Bool, true, false, List, [], ◌∷◌, ◌++◌, length, get_or, take, Option, Some, None, map, refl, sym, ap, subst}
-use Rattle.std.specs.Prelude.{Result, IfOk}
 use Rattle.mo_types.specs.declared.node.TypeId.{TypeId}
 use Rattle.typed_tree.specs.declared.expression.TypedExpression.{TypedExpression}
 use Rattle.typing_rules.specs.AbstractSyntax as p
@@ -8,7 +7,6 @@ use Rattle.typing_rules.specs.Terms.{Term}
 use Rattle.typing_rules.specs.TypedTrees.{type_of}
 use Rattle.typing_rules.specs.TypedTrees as typed
 use Rattle.type_terms.specs.declared.form.TermId.{TermId}
-use Rattle.type_definitions.specs.Meanings.{term}
 use Rattle.abstract_tree.specs.declared.expressions.Expression.{Expression}
 use Rattle.abstract_tree.specs.declared.expressions.ObjectField.{ObjectField}
 use Rattle.abstract_tree.specs.TreeView.{fields, listed, object_field}

@@ -1,5 +1,5 @@
 -- Functions as they are made.
-use Rattle.std.proofs.Common.{◌≡◌, ◌∙◌, ℕ, ◌+◌, List, [], ◌∷◌, ◌++◌, map, refl, sym, ap, arith}
+use Rattle.std.proofs.Common.{◌≡◌, ◌∙◌, ℕ, ◌+◌, List, [], ◌∷◌, ◌++◌, map, refl, ap, arith}
 use Rattle.std.specs.Prelude.{Result, Ok, Err, IfOk}
 use Rattle.mo_types.specs.declared.node.Sort.TheVariants as sort
 use Rattle.mo_types.specs.declared.node.TypeId.{TypeId}
@@ -9,14 +9,13 @@ use Rattle.typed_tree.specs.declared.pattern.TypedPattern.{TypedPattern}
 use Rattle.typing_rules.specs.Terms as t
 use Rattle.typing_rules.specs.TypeScopes as scopes
 use Rattle.abstract_tree.specs.declared.expressions.Expression.{Expression}
-use Rattle.abstract_types.specs.declared.patterns.Pattern.{Pattern}
 use Rattle.abstract_types.specs.declared.patterns.Signature.{Signature}
 use Rattle.abstract_types.specs.declared.types.TypeParameter.{TypeParameter}
 use Rattle.abstract_types.specs.TypeView.{parameter}
 use Rattle.value_scopes.specs.declared.note.Note.{Note}
 use Rattle.met_types.specs.States.{State}
 use Rattle.kernel_counts.specs.Counting.{Counts}
-use Rattle.desugaring.specs.Frames.{Entry, Exit, Frame, Unnamed, in_function, with_entries}
+use Rattle.desugaring.specs.Frames.{Entry, Frame, Unnamed, in_function, with_entries}
 use Rattle.kernel_frames.specs.declared.names.Mark.{Mark}
 use Rattle.kernel_frames.specs.Places.{Cuts, IsMark}
 use Rattle.kernel_types.specs.Numbers.{number}

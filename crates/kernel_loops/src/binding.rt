@@ -3,7 +3,7 @@ ghost use Rattle.std.specs.Prelude.{◌≡◌, IfOk, OnOk, map};
 ghost use Rattle.typing_rules.specs.AbstractSyntax as syntax;
 ghost use Rattle.abstract_tree.specs.TreeView.{case, cases};
 ghost use Rattle.value_scopes.specs.Values.{noted};
-ghost use Rattle.kernel_parts.specs.Views.{expression_in, form_of, tree_of};
+ghost use Rattle.kernel_parts.specs.Views.{expression_in, form_of};
 ghost use Rattle.kernel_parts.specs.Writing.{Writes};
 ghost use Rattle.kernel_scopes.specs.Bound.{pattern_in};
 ghost use Rattle.kernel_loops.specs.Loops.{case_of};

@@ -1,5 +1,5 @@
 -- Heads in the graph say what heads with types say.
-use Rattle.std.proofs.Common.{◌≡◌, ◌∙◌, ℕ, Bool, true, false, List, [], ◌∷◌, ◌++◌, map, Option, Some, None, refl, sym, ap, subst}
+use Rattle.std.proofs.Common.{◌≡◌, ◌∙◌, ℕ, Bool, true, false, List, [], ◌∷◌, ◌++◌, map, Option, Some, refl, sym, ap}
 use Rattle.std.specs.Prelude.{nat_eq, if◌then◌else◌}
 use Rattle.std.specs.Cmp.Lexicographic.{pointwise}
 use Rattle.mo_types.specs.declared.node.Field.{Field}
@@ -9,7 +9,6 @@ use Rattle.mo_types.specs.declared.node.Sort.TheVariants as sort
 use Rattle.mo_types.specs.declared.node.TypeId.{TypeId}
 use Rattle.mo_types.specs.Sub.{Each, find}
 use Rattle.mo_subtype.specs.Renamed.{on_field, on_node}
-use Rattle.typed_tree.specs.declared.action.Action.{Action}
 use Rattle.typed_tree.specs.declared.action.Action.TheVariants as action
 use Rattle.typed_tree.specs.Instances.{types_in}
 use Rattle.typing_rules.specs.Expressions.{element_of}
@@ -18,7 +17,7 @@ use Rattle.typing_rules.specs.Terms as t
 use Rattle.type_terms.specs.declared.form.TermId.{TermId}
 use Rattle.met_types.specs.States.{State}
 use Rattle.desugaring.specs.Expressions.{field_of, or_else, part_or}
-use Rattle.kernel_types.specs.Numbers.{IsHead, IsMembersHead, IsNumbered, head_of, members_head_of, number, type_at}
+use Rattle.kernel_types.specs.Numbers.{IsHead, IsMembersHead, head_of, members_head_of, number, type_at}
 use Rattle.kernel_members.specs.Accesses.{IsFieldNumber, access_at, callee_at, callee_in, element_at, element_number_of, field_at, is_mutable_at, is_var, or_number, part_of}
 use Rattle.kernel_members.specs.declared.members.Access.{Access}
 use Rattle.kernel_members.specs.declared.members.Access.TheVariants as access

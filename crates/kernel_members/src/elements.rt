@@ -1,7 +1,7 @@
 //! Elements of arrays.
 ghost use Rattle.std.specs.Prelude.{◌≡◌, ◌∷◌, [], IfOk};
 ghost use Rattle.mo_values.specs.declared.operation.Operation.TheVariants as op;
-ghost use Rattle.kernel_nodes.specs.Made.{held_at, operates_at};
+ghost use Rattle.kernel_nodes.specs.Made.{operates_at};
 ghost use Rattle.kernel_members.specs.Accesses.{element_at, element_in, element_number_of, is_mutable_at};
 
 use kernel_nodes::{held, operates, two};

@@ -1,8 +1,7 @@
 -- Public functions and system functions, with the types as they are in the table and in the graph.
-use Rattle.std.specs.Prelude.{ℕ, ◌+◌, List, [], ◌∷◌, ◌++◌, Bool, Option, Some, None, map, option_map, cond}
+use Rattle.std.specs.Prelude.{ℕ, ◌+◌, List, [], ◌∷◌, Bool, Option, Some, None, map, option_map, cond}
 use Rattle.std.specs.Str.{bytes_eq}
 use Rattle.mo_types.specs.declared.node.Sort.TheVariants as sort
-use Rattle.mo_types.specs.declared.node.TypeId.{TypeId}
 use Rattle.typed_tree.specs.declared.expression.Function.{Function, roll-Function}
 use Rattle.typed_tree.specs.declared.expression.TypedExpression.{TypedExpression}
 use Rattle.typed_tree.specs.declared.pattern.TypedPattern.{TypedPattern}

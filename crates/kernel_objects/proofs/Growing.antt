@@ -1,8 +1,8 @@
 -- Around the end of a list stand the names of its declarations and then those around the list; what can be left is the same.
-use Rattle.std.proofs.Common.{◌≡◌, ◌∙◌, ℕ, zero, suc, Bool, true, false, List, [], ◌∷◌, ◌++◌, map, refl, sym, ap, append_assoc}
+use Rattle.std.proofs.Common.{◌≡◌, ◌∙◌, ℕ, zero, suc, Bool, true, false, List, [], ◌∷◌, ◌++◌, map, refl, sym, append_assoc}
 use Rattle.typed_tree.specs.Placing.{Declared}
 use Rattle.desugaring.specs.Frames.{Entry, Frame, with_entries}
-use Rattle.desugaring.specs.Pieces.{AFunction, AStep, AnExpression, Arranged, Becomes, Named, Nothing, Piece, arranged, arranged_from, ended, group_at, is_end, names_of, placed_piece}
+use Rattle.desugaring.specs.Pieces.{AFunction, AStep, AnExpression, Arranged, Becomes, Nothing, Piece, arranged, arranged_from, group_at, is_end, names_of, placed_piece}
 
 pub record Grown (old new : Frame) : Type 0 where
   pub more : List Entry

@@ -2,11 +2,6 @@
 use Rattle.std.proofs.Common.{◌≡◌, ◌∙◌, ℕ, suc, ◌+◌, Bool, List, [], ◌∷◌, ◌++◌, map, refl, sym, ap, subst, arith}
 use Rattle.std.specs.Prelude.{Result, Ok, Err, IfOk, Option, Some, None}
 use Rattle.mo_types.specs.declared.node.TypeId.{TypeId}
-use Rattle.mo_values.specs.declared.operation.Operation.TheVariants as op
-use Rattle.typed_tree.specs.declared.expression.Form.TheOpen as F
-use Rattle.typed_tree.specs.declared.expression.Form.TheVariants as f
-use Rattle.typed_tree.specs.declared.expression.Function.{Function}
-use Rattle.typed_tree.specs.declared.expression.Step.{Step}
 use Rattle.typed_tree.specs.declared.expression.TypedExpression.{TypedExpression}
 use Rattle.typing_rules.specs.AbstractSyntax.{Bytes}
 use Rattle.typing_rules.specs.Terms.{unit}
@@ -15,19 +10,18 @@ use Rattle.abstract_tree.specs.declared.declarations.Declaration.{Declaration}
 use Rattle.abstract_types.specs.declared.patterns.Signature.{Signature}
 use Rattle.value_scopes.specs.declared.note.Note.{Note}
 use Rattle.met_types.specs.States.{State}
-use Rattle.desugaring.specs.Expressions.{or_else, pieces}
-use Rattle.desugaring.specs.Frames.{Entry, Frame, in_function, with_names, found}
+use Rattle.desugaring.specs.Expressions.{pieces}
+use Rattle.desugaring.specs.Frames.{Entry, Frame, in_function}
 use Rattle.kernel_counts.specs.Counting.{Counts}
 use Rattle.kernel_frames.specs.declared.names.Mark.{Mark}
 use Rattle.kernel_frames.specs.Places.{Cuts, IsMark}
 use Rattle.kernel_members.specs.Accesses.{IsFieldNumber, or_number}
 use Rattle.kernel_types.specs.Numbers.{definitions, head_of, number}
-use Rattle.kernel_nodes.specs.Made.{at_type, on, operates_at, unit_in}
 use Rattle.kernel_parts.specs.Views.{list_in, list_of}
 use Rattle.kernel_scopes.specs.Bound.{parameters_of}
 use Rattle.kernel_scopes.proofs.Around.{same_frame}
 use Rattle.kernel_functions.specs.Functions.{made_of}
-use Rattle.kernel_objects.specs.Objects.{block_at, class_in, class_nodes, name_number_of, object_at, object_in, operand_in, operands_in}
+use Rattle.kernel_objects.specs.Objects.{class_in, class_nodes, name_number_of, object_in, operand_in, operands_in}
 use Rattle.kernel_objects.proofs.Growing.{Grown, list_grows}
 
 -- a list was written out, and its names are taken away

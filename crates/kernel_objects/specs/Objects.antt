@@ -1,5 +1,5 @@
 -- Blocks, objects and classes with the types as they are in the table and in the graph.
-use Rattle.std.specs.Prelude.{ℕ, suc, ◌+◌, true, false, List, [], Option, cond}
+use Rattle.std.specs.Prelude.{ℕ, suc, ◌+◌, false, List, [], Option, cond}
 use Rattle.mo_types.specs.declared.node.Sort.TheVariants as sort
 use Rattle.mo_types.specs.declared.node.TypeId.{TypeId}
 use Rattle.mo_values.specs.declared.operation.Operation.TheVariants as op

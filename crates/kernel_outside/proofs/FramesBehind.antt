@@ -1,6 +1,6 @@
 -- Frames around and behind the declarations.
 use Rattle.std.proofs.Common.{◌≡◌, ◌∙◌, ℕ, zero, suc, ◌+◌, ◌<◌, ◌≤◌, Bool, true, false, List, [], ◌∷◌, ◌++◌, length, drop, get_or, map, Option, refl, sym, ap}
-use Rattle.std.specs.Prelude.{Result, Ok, Err, IfOk, OnOk, cond}
+use Rattle.std.specs.Prelude.{Result, Ok, Err, OnOk, cond}
 use Rattle.std.specs.List.{list_any}
 use Rattle.std.specs.Str.{bytes_eq}
 use Rattle.std.proofs.lemmas.List.{append-nil}

@@ -1,5 +1,5 @@
 -- Names that patterns bind, and the bodies of loops.
-use Rattle.std.specs.Prelude.{ℕ, List, map}
+use Rattle.std.specs.Prelude.{List, map}
 use Rattle.typed_tree.specs.declared.expression.Form.TheOpen as F
 use Rattle.typed_tree.specs.declared.expression.TypedExpression.{TypedExpression}
 use Rattle.typing_rules.specs.AbstractSyntax.{Bytes}

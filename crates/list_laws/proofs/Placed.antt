@@ -1,21 +1,19 @@
 -- A list whose declarations are typed by themselves, and whose names are used where they stand, is typed in the order of evaluation.
-use Rattle.std.proofs.Common.{◌≡◌, ◌⊎◌, inl, inr, ℕ, zero, suc, ◌<◌, Bool, true, false, List, [], ◌∷◌, ◌++◌, length, map, Option, Some, None, refl, sym, ap, ◌∙◌, subst, arith}
+use Rattle.std.proofs.Common.{◌≡◌, ◌⊎◌, inl, inr, ℕ, zero, suc, ◌<◌, Bool, true, false, List, [], ◌∷◌, ◌++◌, length, map, Option, Some, refl, sym, ap, ◌∙◌, subst, arith}
 use Rattle.std.proofs.lemmas.Bool.{eqb-true}
 use Rattle.std.proofs.lemmas.Slice.Eq.{bytes_eq-Decides}
 use Rattle.std.specs.Prelude.{cond, nat_eq, filter, flat_map}
 use Rattle.std.specs.Str.{bytes_eq}
 use Rattle.mo_scopes.specs.Scopes.{named}
-use Rattle.mo_types.specs.declared.node.Sort.TheVariants as sort
 use Rattle.mo_types.specs.declared.node.TypeId.{TypeId}
 use Rattle.mo_types.specs.Graph.{Slot, head_at}
 use Rattle.subtype_laws.specs.Reached.{Among}
 use Rattle.typed_tree.specs.declared.expression.Form.TheOpen as F
 use Rattle.typed_tree.specs.declared.expression.Function.{Function}
-use Rattle.typed_tree.specs.declared.expression.Step.{Step, roll-Step}
 use Rattle.typed_tree.specs.declared.expression.TypedExpression.{TypedExpression}
 use Rattle.typed_tree.specs.ActionTypes.{Context}
 use Rattle.typed_tree.specs.Placing.{Declared, place}
-use Rattle.typed_tree.specs.Typing.{Signature, NameOf, GroupStands, IsFunctionOf, Declares, Typed, with_names}
+use Rattle.typed_tree.specs.Typing.{GroupStands, IsFunctionOf, Typed, with_names}
 use Rattle.typed_tree.specs.Wants.{Want}
 use Rattle.typed_tree.proofs.Rules.{steps}
 use Rattle.typing_rules.specs.AbstractSyntax.{Bytes}
@@ -23,10 +21,10 @@ use Rattle.typing_rules.specs.AsyncPlaces.{Body}
 use Rattle.typing_rules.specs.Contexts.{Bound, Scope}
 use Rattle.typing_rules.specs.Definitions.{Definitions}
 use Rattle.typing_rules.specs.Terms.{Term}
-use Rattle.desugaring.specs.Frames.{Entry, value, Frame, Use, with_entries, found_from}
+use Rattle.desugaring.specs.Frames.{Entry, value, Frame, with_entries, found_from}
 use Rattle.desugaring.specs.Pieces.{Becomes, AStep, AFunction, AnExpression, Nothing, Piece, Named, function_of, group_at, names_of, is_end, arranged_from}
 use Rattle.expression_laws.specs.Fitting.{StandsFor}
-use Rattle.expression_laws.proofs.Naming.{next, found_next, same_bytes}
+use Rattle.expression_laws.proofs.Naming.{found_next, same_bytes}
 use Rattle.function_laws.proofs.Instances.{eqb-self}
 use Rattle.list_laws.specs.Facts.{Fact, Evaluates, IsFunction, Other, scope_at, DefinedBefore, FunctionBefore, nth}
 use Rattle.list_laws.specs.Facts as facts_of

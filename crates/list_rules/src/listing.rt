@@ -1,5 +1,4 @@
 //! Lists of declarations (Motoko language manual, sections "Declarations" and "Blocks").
-ghost use Rattle.std.specs.Prelude.{OnOk};
 ghost use Rattle.judging.specs.Answers.{Answers, Judges};
 ghost use Rattle.judging.specs.Parts.{Ready};
 ghost use Rattle.list_judging.specs.Judging.{JudgesLists};

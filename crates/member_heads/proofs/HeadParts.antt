@@ -19,7 +19,6 @@ use Rattle.typing_rules.specs.Members.{object_field}
 use Rattle.typing_rules.specs.Terms.{Term}
 use Rattle.type_definitions.specs.Definitions.{rules_in}
 use Rattle.type_definitions.specs.Meanings.{term}
-use Rattle.type_definitions.specs.Tables.{Later}
 use Rattle.met_types.specs.Closing.{terms_in}
 use Rattle.met_types.specs.States.{State, IsNodeOf, IsReached}
 use Rattle.judging.specs.Heads.{HeadHas}

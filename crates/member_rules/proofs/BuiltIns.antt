@@ -1,9 +1,8 @@
 -- Members of modules, whose types are written out.
-use Rattle.std.proofs.Common.{◌≡◌, ◌∙◌, ℕ, Bool, true, false, List, [], ◌∷◌, Ok, Err, option_map, length, refl, sym, ap, arith}
+use Rattle.std.proofs.Common.{◌≡◌, ◌∙◌, ℕ, Bool, true, false, List, [], ◌∷◌, Err, option_map, length, refl, sym, ap, arith}
 use Rattle.std.proofs.lemmas.Bool.{ne_eqb}
 use Rattle.std.specs.Prelude.{Result, nat_eq}
 use Rattle.mo_scopes.specs.declared.library.Member.{Member}
-use Rattle.type_terms.specs.declared.form.Form.{Form}
 use Rattle.typing_rules.specs.declared.condition.Condition.TheVariants as condition
 use Rattle.typing_rules.specs.AbstractSyntax as p
 use Rattle.typing_rules.specs.Contexts.{Bound}
@@ -14,7 +13,6 @@ use Rattle.typing_rules.specs.Patterns.{is_empty}
 use Rattle.typing_rules.specs.Terms.{Term}
 use Rattle.typing_rules.specs.TypedTrees.{Typed}
 use Rattle.type_definitions.specs.Meanings.{term}
-use Rattle.type_definitions.proofs.Meanings.{grows_not}
 use Rattle.met_types.specs.States.{State}
 use Rattle.type_judgements.specs.declared.refusal.Refusal.{Refusal}
 use Rattle.type_judgements.specs.declared.refusal.Refusal.TheVariants as refusal
@@ -22,7 +20,6 @@ use Rattle.value_scopes.specs.declared.bound.Bound as value
 use Rattle.value_scopes.specs.declared.scopes.Scopes.{Scopes}
 use Rattle.judging.specs.declared.checker.Checker.{Checker}
 use Rattle.judging.specs.declared.site.Site.{Site}
-use Rattle.judging.specs.Parts.{Sound}
 use Rattle.judging.specs.Views.{View, wanted_in, typed_in, kind_reached}
 use Rattle.judging.proofs.Cases.{tests_fail, tests_hold}
 use Rattle.judging.proofs.Chains.{after, seen_as}

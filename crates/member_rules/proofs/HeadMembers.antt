@@ -20,15 +20,14 @@ use Rattle.typing_rules.specs.Terms.{Term}
 use Rattle.type_definitions.specs.Definitions.{Listed, rules_in}
 use Rattle.type_definitions.specs.Meanings.{term}
 use Rattle.type_definitions.specs.Tables.{Later, Within}
-use Rattle.type_definitions.proofs.Meanings.{grows_not, later_on, term_stays, within_on}
+use Rattle.type_definitions.proofs.Meanings.{later_on, term_stays}
 use Rattle.met_types.specs.Closing.{terms_in}
-use Rattle.met_types.specs.States.{State, IsNodeOf, IsReached, Kept}
-use Rattle.judging.specs.Heads.{HeadHas}
+use Rattle.met_types.specs.States.{State, IsNodeOf, Kept}
 use Rattle.judging.proofs.NodeParts.{part_is}
 use Rattle.judging.proofs.Steps.{reached_within}
 use Rattle.member_heads.specs.Members.{IsPromoted, MembersHave}
 use Rattle.member_heads.proofs.HeadParts.{members_are}
-use Rattle.built_in_members.specs.Written.{Added, FoundWritten, Writes, WritesFound, Written}
+use Rattle.built_in_members.specs.Written.{Added, FoundWritten, WritesFound, Written}
 use Rattle.built_in_members.proofs.Interned.{added_not, itself}
 use Rattle.member_rules.specs.declared.kinds.Members.{Members}
 use Rattle.member_rules.specs.declared.kinds.Members.TheVariants as members

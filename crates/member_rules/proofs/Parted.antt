@@ -1,9 +1,8 @@
 -- The rules of parts of tuples and of elements of arrays.
-use Rattle.std.proofs.Common.{◌≡◌, ◌∙◌, ℕ, List, Ok, Err, Option, Some, None, slice_get, refl, ap}
+use Rattle.std.proofs.Common.{◌≡◌, ℕ, List, Ok, Err, Some, None, slice_get}
 use Rattle.std.specs.Prelude.{Result}
 use Rattle.std.specs.Result.{IsErr, IsErrAnd}
 use Rattle.mo_types.specs.Heads.{tuple_of}
-use Rattle.type_terms.specs.declared.form.Form.{Form}
 use Rattle.type_terms.specs.declared.form.TermId.{TermId}
 use Rattle.typing_rules.specs.declared.condition.Condition.TheVariants as condition
 use Rattle.typing_rules.specs.AbstractSyntax.{Expression}
@@ -23,7 +22,6 @@ use Rattle.judging.specs.declared.checker.Checker.{Checker}
 use Rattle.judging.specs.declared.site.Site.{Site}
 use Rattle.judging.specs.Views.{View, definitions, judge, judge_at, rule, wanted_in, typed_in, kind_reached}
 use Rattle.judging.proofs.Chains.{seen_as}
-use Rattle.judging.proofs.Forms.{type_is}
 use Rattle.judging.proofs.TypedParts.{Given, Comes, part_given, part_refused}
 use Rattle.member_heads.specs.Members.{MembersHave, part_at}
 use Rattle.member_heads.proofs.ByMembers.{by_members, member_given, no_member, two_given}

@@ -1,5 +1,4 @@
 //! Members of modules of the base library.
-ghost use Rattle.std.specs.Prelude.{◌≡◌};
 ghost use Rattle.typing_rules.specs.declared.condition.Condition.TheVariants as condition;
 ghost use Rattle.typing_rules.specs.AbstractSyntax as syntax;
 ghost use Rattle.typing_rules.specs.Ends.{Has};

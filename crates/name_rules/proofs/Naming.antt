@@ -1,12 +1,10 @@
 -- Names by what they stand for.
-use Rattle.std.proofs.Common.{◌≡◌, ◌∙◌, ℕ, Bool, true, false, cond, List, [], ◌∷◌, Ok, Err, Option, Some, None, option_map, length, arith, map, refl, ap, subst, sym}
+use Rattle.std.proofs.Common.{◌≡◌, ◌∙◌, ℕ, Bool, true, false, cond, List, [], ◌∷◌, Ok, Err, Some, None, length, arith, refl, subst, sym}
 use Rattle.std.proofs.lemmas.Bool.{ne_eqb}
-use Rattle.std.proofs.lemmas.Map.Made.{lookup-map_values}
 use Rattle.std.specs.Prelude.{Result, nat_eq}
 use Rattle.std.specs.Result.{IsErr, IsErrAnd}
 use Rattle.std.specs.Str.{bytes_eq}
 use Rattle.mo_scopes.specs.Scopes.{named}
-use Rattle.mo_types.specs.Sub.{Each}
 use Rattle.type_terms.specs.declared.form.Form.{Form}
 use Rattle.typing_rules.specs.declared.condition.Condition.TheVariants as condition
 use Rattle.typing_rules.specs.AbstractSyntax as p
@@ -23,7 +21,7 @@ use Rattle.type_judgements.specs.declared.refusal.Refusal.TheVariants as refusal
 use Rattle.value_scopes.specs.declared.bound.Bound as value
 use Rattle.value_scopes.specs.declared.scopes.Scopes.{Scopes}
 use Rattle.value_scopes.specs.Places.{around_in, body_in}
-use Rattle.value_scopes.specs.Values.{Hold, bound_in, scope_in}
+use Rattle.value_scopes.specs.Values.{Hold, bound_in}
 use Rattle.judging.specs.declared.checker.Checker.{Checker}
 use Rattle.judging.specs.declared.site.Site.{Site}
 use Rattle.judging.specs.Views.{View, context, definitions, wanted_in, typed_in, kind_reached, nothing, no_more}

@@ -9,7 +9,7 @@ use Rattle.mo_scopes.specs.Scopes.{library_of, members_of, named}
 use Rattle.type_terms.specs.declared.form.Form.{Form}
 use Rattle.typing_rules.specs.AbstractSyntax as p
 use Rattle.typing_rules.specs.Calls.{built_in}
-use Rattle.typing_rules.specs.Contexts.{Context, Bound, module_member, value_named}
+use Rattle.typing_rules.specs.Contexts.{Context, Bound, module_member}
 use Rattle.abstract_tree.specs.declared.declarations.DeclarationForm.TheOpen as F
 use Rattle.abstract_tree.specs.declared.declarations.Declaration.{Declaration}
 use Rattle.abstract_tree.specs.declared.declarations.DeclarationForm.{DeclarationForm}

@@ -2,7 +2,7 @@
 ghost use Rattle.std.specs.Prelude.{◌≡◌, IfOk, map, min};
 ghost use Rattle.typing_rules.specs.Nodes.{in_cases, in_declaration, in_each, in_expression, in_fields, in_list, nodes};
 ghost use Rattle.abstract_tree.specs.TreeView.{cases, declarations, fields, listed, plain, plain_case, plain_declaration, plain_declaration_form, plain_field, plain_program};
-ghost use Rattle.node_counts.specs.Counting.{Counts, CountsField};
+ghost use Rattle.node_counts.specs.Counting.{Counts};
 
 use crate::capped::{capped, one_more};
 use crate::patterns::{count_context, count_pattern, count_signature};

@@ -1,8 +1,8 @@
 //! The nodes of patterns and signatures.
-ghost use Rattle.std.specs.Prelude.{◌≡◌, IfOk, map, option_map};
+ghost use Rattle.std.specs.Prelude.{IfOk, map, option_map};
 ghost use Rattle.typing_rules.specs.Nodes.{in_context, in_pattern, in_pattern_fields, in_patterns, in_signature};
 ghost use Rattle.abstract_types.specs.PatternView.{fields, listed, plain, plain_field, plain_signature};
-ghost use Rattle.node_counts.specs.Counting.{Counts, CountsField};
+ghost use Rattle.node_counts.specs.Counting.{Counts};
 
 use crate::capped::one_more;
 use crate::types::{count_annotation, count_generics, count_type};

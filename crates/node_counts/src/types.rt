@@ -1,6 +1,6 @@
 //! The nodes of types. Each function adds those of a part to what is counted, within so many levels: a part of more levels than
 //! there are addresses is none that memory holds.
-ghost use Rattle.std.specs.Prelude.{◌≡◌, IfOk, map, option_map};
+ghost use Rattle.std.specs.Prelude.{IfOk, map, option_map};
 ghost use Rattle.typing_rules.specs.AbstractTypes.{type_fields, type_nodes};
 ghost use Rattle.typing_rules.specs.Nodes.{in_annotation, in_arguments, in_generics, in_type, in_type_arguments, in_type_fields, in_types};
 ghost use Rattle.abstract_types.specs.TypeView.{annotation, parameter, type_field, type_node};

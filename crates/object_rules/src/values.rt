@@ -1,5 +1,5 @@
 //! The value of a field.
-ghost use Rattle.std.specs.Prelude.{◌≡◌, IfSome, None, OnOk, Some, option_map};
+ghost use Rattle.std.specs.Prelude.{◌≡◌, IfSome, None, OnOk, Some};
 ghost use Rattle.mo_types.specs.Sub.{Each, find};
 ghost use Rattle.mo_subtype.specs.Renamed.{on_field};
 ghost use Rattle.typing_rules.specs.declared.condition.Condition.TheVariants as condition;

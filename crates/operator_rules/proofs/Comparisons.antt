@@ -8,9 +8,7 @@ use Rattle.type_terms.specs.declared.form.TermId.{TermId}
 use Rattle.typing_rules.specs.declared.condition.Condition.TheVariants as condition
 use Rattle.typing_rules.specs.AbstractSyntax.{Expression}
 use Rattle.typing_rules.specs.AbstractSyntax as p
-use Rattle.typing_rules.specs.Answers.{fault}
 use Rattle.typing_rules.specs.Heads.{head}
-use Rattle.typing_rules.specs.Terms.{Term}
 use Rattle.typing_rules.specs.Terms as t
 use Rattle.typing_rules.specs.Judgements.{Judgement, Part, Needs, Tests, Fine, IsComparable}
 use Rattle.typing_rules.specs.TypedTrees.{Note, Typed, note, subsumed}
@@ -20,10 +18,8 @@ use Rattle.typing_rules.specs.Operators.{is_ordered}
 use Rattle.typing_rules.specs.Operands.{Equality, Ordering}
 use Rattle.type_definitions.specs.Meanings.{term}
 use Rattle.type_definitions.proofs.Meanings.{grows_not}
-use Rattle.met_types.specs.States.{State, Goes}
 use Rattle.shareable_types.specs.declared.sharing.Sharing.{Sharing}
 use Rattle.shareable_types.specs.Answers.{Stands, IsAnswer}
-use Rattle.type_judgements.specs.Judged.{Gave, Names}
 use Rattle.type_judgements.specs.declared.refusal.Refusal.{Refusal}
 use Rattle.type_judgements.specs.declared.refusal.Refusal.TheVariants as refusal
 use Rattle.abstract_tree.specs.declared.expressions.ExpressionForm.{ExpressionForm}
@@ -34,7 +30,7 @@ use Rattle.value_scopes.specs.declared.scopes.Scopes.{Scopes}
 use Rattle.value_scopes.specs.Values.{noted}
 use Rattle.judging.specs.declared.checker.Checker.{Checker}
 use Rattle.judging.specs.declared.site.Site.{Site}
-use Rattle.judging.specs.Parts.{Known, Sound}
+use Rattle.judging.specs.Parts.{Sound}
 use Rattle.judging.specs.Views.{View, view, definitions, wanted_in, form_in, typed_in, kind_reached, nothing, no_more}
 use Rattle.judging.specs.Answers.{Answers}
 use Rattle.judging.proofs.Chains.{seen_as, goes_on, stops}

@@ -9,7 +9,7 @@ use Rattle.typing_rules.specs.Judgements.{Judgement}
 use Rattle.typing_rules.specs.TypedTrees.{Typed}
 use Rattle.typing_rules.specs.Ends.{Has}
 use Rattle.typing_rules.specs.Literals.{written}
-use Rattle.typing_rules.specs.Operators.{Family, family}
+use Rattle.typing_rules.specs.Operators.{Family}
 use Rattle.typing_rules.specs.Operands.{Binary, Operand}
 use Rattle.type_definitions.specs.Meanings.{term}
 use Rattle.type_terms.specs.declared.form.TermId.{TermId}

@@ -1,5 +1,5 @@
 -- Arithmetic.
-use Rattle.std.proofs.Common.{◌≡◌, ◌∙◌, ℕ, List, Ok, Err, Option, Some, None}
+use Rattle.std.proofs.Common.{◌≡◌, ◌∙◌, ℕ, Ok, Err, Option, Some, None}
 use Rattle.std.specs.Prelude.{Result}
 use Rattle.std.specs.Result.{IsErr, IsErrAnd}
 use Rattle.mo_num.specs.declared.kind.Kind.{Kind}

@@ -1,6 +1,6 @@
 -- `-` before an expression.
 use Rattle.std.proofs.Common.{◌≡◌, ◌∙◌, ℕ, List, Ok, Err, Option, Some, None, refl, sym, ap}
-use Rattle.std.specs.Prelude.{ℤ, Result, pos, neg_ℤ}
+use Rattle.std.specs.Prelude.{Result, pos, neg_ℤ}
 use Rattle.std.specs.Result.{IsErr, IsErrAnd}
 use Rattle.mo_num.specs.declared.kind.Kind.{Kind}
 use Rattle.mo_num.specs.declared.kind.Kind.TheVariants as kinds

@@ -1,10 +1,9 @@
 -- The right side of an operator with an assignment.
 use mathlib.Core.Path.{fun_ext}
-use Rattle.std.proofs.Common.{◌≡◌, ◌∙◌, ℕ, Bool, true, false, List, Ok, Err, Option, Some, None, refl, ap}
+use Rattle.std.proofs.Common.{◌≡◌, ◌∙◌, ℕ, Bool, true, false, Ok, Err, Option, Some, None, refl, ap}
 use Rattle.std.specs.Prelude.{Result}
 use Rattle.std.specs.Result.{IsErr, IsErrAnd}
 use Rattle.mo_num.specs.declared.kind.Kind.{Kind}
-use Rattle.type_terms.specs.declared.form.Form.{Form}
 use Rattle.type_terms.specs.declared.form.TermId.{TermId}
 use Rattle.typing_rules.specs.declared.condition.Condition.{Condition}
 use Rattle.typing_rules.specs.declared.condition.Condition.TheVariants as condition
@@ -24,8 +23,7 @@ use Rattle.value_scopes.specs.declared.scopes.Scopes.{Scopes}
 use Rattle.judging.specs.declared.checker.Checker.{Checker}
 use Rattle.judging.specs.declared.site.Site.{Site}
 use Rattle.judging.specs.Heads.{HeadHas}
-use Rattle.judging.specs.Parts.{Sound}
-use Rattle.judging.specs.Views.{View, view, definitions, judge_at, term_in, typed_in, kind_reached, nothing, no_more}
+use Rattle.judging.specs.Views.{View, view, definitions, term_in, typed_in, kind_reached, nothing, no_more}
 use Rattle.judging.specs.Answers.{Answers}
 use Rattle.judging.proofs.Cases.{given_none, given_some}
 use Rattle.judging.proofs.Chains.{seen_as, given, goes_on, stops}

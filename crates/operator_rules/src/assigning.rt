@@ -1,5 +1,5 @@
 //! The right side of `p += e`, or with another operator (Motoko language manual, section "Compound assignment").
-ghost use Rattle.std.specs.Prelude.{IfOk, OnOk, Some};
+ghost use Rattle.std.specs.Prelude.{OnOk, Some};
 ghost use Rattle.typing_rules.specs.declared.condition.Condition.TheVariants as condition;
 ghost use Rattle.typing_rules.specs.Heads.{head};
 ghost use Rattle.typing_rules.specs.Judgements.{Given, Gives, IsBelow, Meets, Needs};

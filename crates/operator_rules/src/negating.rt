@@ -1,5 +1,5 @@
 //! The rule of `-` before an expression (Motoko language manual, section "Unary operators").
-ghost use Rattle.std.specs.Prelude.{◌≡◌, IfOk, None, OnOk, neg_ℤ, pos};
+ghost use Rattle.std.specs.Prelude.{◌≡◌, IfOk, None, neg_ℤ, pos};
 ghost use Rattle.mo_num.specs.declared.kind.Kind.TheVariants as kinds;
 ghost use Rattle.typing_rules.specs.AbstractSyntax as syntax;
 ghost use Rattle.typing_rules.specs.declared.condition.Condition.TheVariants as condition;

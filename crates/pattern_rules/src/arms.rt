@@ -1,6 +1,5 @@
 //! Patterns with what is judged with their names.
 ghost use Rattle.std.specs.Prelude.{◌≡◌, IfOk, OnOk, map};
-ghost use Rattle.mo_types.specs.Sub.{Each};
 ghost use Rattle.met_types.specs.States.{IsReached};
 ghost use Rattle.abstract_types.specs.PatternView.{plain as plain_pattern};
 ghost use Rattle.abstract_tree.specs.TreeView.{plain};

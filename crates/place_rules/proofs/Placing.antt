@@ -40,7 +40,7 @@ use Rattle.judging.proofs.Chains.{fails, seen_as}
 use Rattle.judging.proofs.Forms.{seen, type_is}
 use Rattle.judging.proofs.Steps.{ready_on}
 use Rattle.judging.proofs.TypedParts.{Given, Comes, part_given, part_refused}
-use Rattle.member_heads.specs.Members.{MembersHave, seen_field}
+use Rattle.member_heads.specs.Members.{MembersHave}
 use Rattle.member_heads.proofs.ByMembers.{by_flag, by_members, member_given, no_member}
 use Rattle.member_heads.proofs.HeadParts.{var_field}
 use Rattle.name_rules.proofs.NoNames.{value_seen}

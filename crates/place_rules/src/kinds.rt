@@ -1,5 +1,5 @@
 //! What may be assigned to, by its form.
-ghost use Rattle.std.specs.Prelude.{◌≡◌, IfOk, None, OnOk};
+ghost use Rattle.std.specs.Prelude.{◌≡◌, IfOk, None};
 ghost use Rattle.typing_rules.specs.AbstractSyntax as syntax;
 ghost use Rattle.abstract_tree.specs.TreeView.{plain};
 ghost use Rattle.judging.specs.Answers.{Answers, Judges};

@@ -3,7 +3,6 @@ use Rattle.std.proofs.Common.{◌≡◌, ◌∙◌, ℕ, false, List, [], ◌∷
 use Rattle.std.specs.Prelude.{Result, OnOk}
 use Rattle.std.specs.Result.{IsErr, IsErrAnd}
 use Rattle.type_terms.specs.declared.form.Form.{Form}
-use Rattle.type_terms.specs.declared.form.TermId.{TermId}
 use Rattle.type_terms.specs.Tables.{Distinct, Founded}
 use Rattle.typing_rules.specs.AbstractSyntax.{Declarations, Program}
 use Rattle.typing_rules.specs.Answers.{Answer, answer, fault, Comes}
@@ -11,7 +10,7 @@ use Rattle.typing_rules.specs.Contexts.{Context}
 use Rattle.typing_rules.specs.Definitions.{Definitions}
 use Rattle.typing_rules.specs.Gathered.{gathered}
 use Rattle.typing_rules.specs.Judgements.{Fine, Judgement, Gives, Meets, MeetsEach, Part}
-use Rattle.typing_rules.specs.Programs.{JudgeFieldsOf, actor_type, basics, first_context, made_program, own_types}
+use Rattle.typing_rules.specs.Programs.{JudgeFieldsOf, actor_type, basics, first_context, made_program}
 use Rattle.typing_rules.specs.Terms.{Term}
 use Rattle.typing_rules.specs.TypedTrees.{Note}
 use Rattle.type_definitions.specs.Definitions.{Listed, rules_in}
@@ -30,7 +29,7 @@ use Rattle.value_scopes.specs.Places.{context_in}
 use Rattle.judging.specs.declared.checker.Checker.{Checker}
 use Rattle.judging.specs.declared.site.Site.{Site}
 use Rattle.judging.specs.Answers.{Answers}
-use Rattle.judging.specs.Parts.{Ready, Sound}
+use Rattle.judging.specs.Parts.{Ready}
 use Rattle.judging.specs.Views.{View, nothing, no_more, view}
 use Rattle.judging.proofs.Chains.{given, goes_on, seen_as, stops}
 use Rattle.list_judging.specs.declared.part.MadeList.{MadeList}

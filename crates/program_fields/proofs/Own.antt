@@ -1,6 +1,6 @@
 -- The type of a program's name, by what the names in scope stand for.
-use Rattle.std.proofs.Common.{◌≡◌, ◌∙◌, ℕ, Bool, true, List, [], ◌∷◌, Option, Some, None, ap, cond, refl, subst, sym, map, Ok}
-use Rattle.std.specs.Prelude.{Result, IfSome, option_map}
+use Rattle.std.proofs.Common.{◌≡◌, ◌∙◌, Bool, List, [], ◌∷◌, Option, Some, None, ap, cond, refl, subst, sym, map, Ok}
+use Rattle.std.specs.Prelude.{Result, option_map}
 use Rattle.std.specs.Str.{bytes_eq}
 use Rattle.std.proofs.lemmas.Slice.Eq.{bytes_eq-Decides}
 use Rattle.mo_scopes.specs.Scopes.{named}

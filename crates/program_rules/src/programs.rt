@@ -1,5 +1,5 @@
 //! Programs.
-ghost use Rattle.std.specs.Prelude.{◌≡◌, IfOk, nat_le};
+ghost use Rattle.std.specs.Prelude.{◌≡◌, IfOk};
 ghost use Rattle.met_types.specs.States.{Kept};
 ghost use Rattle.abstract_tree.specs.TreeView.{plain_program};
 ghost use Rattle.program_rules.specs.Decided.{Decided, FewNodes, FieldsDecided, TypedIn, fields_in, program_in};

@@ -2,7 +2,7 @@
 use Rattle.std.proofs.Common.{◌≡◌, ◌⊎◌, inl, inr, ℕ, zero, suc, List, Option, Some, sym, subst}
 use Rattle.mo_types.specs.Sub.{Each}
 use Rattle.typed_tree.specs.Instances.{IsAmong}
-use Rattle.typing_rules.specs.AbstractSyntax.{Bytes, Named, TypeNode, Declaration, Declarations}
+use Rattle.typing_rules.specs.AbstractSyntax.{Bytes, Named, TypeNode, Declarations}
 use Rattle.typing_rules.specs.AbstractSyntax as p
 use Rattle.typing_rules.specs.DeclaredTypes.{with_list}
 use Rattle.typing_rules.specs.Definitions.{Definition, Definitions, definition_at, followed, followed_right, reaches}

@@ -5,7 +5,7 @@ use Rattle.typed_tree.specs.Instances.{IsAmong}
 use Rattle.typing_rules.specs.AbstractSyntax.{Bytes, Named, TypeNode, Pattern, Patterns, PatternFields, Signature, Declaration, Declarations}
 use Rattle.typing_rules.specs.AbstractSyntax as p
 use Rattle.typing_rules.specs.DeclaredTypes.{pattern_term, parameter_terms, function_term, class_type, class_term, pattern_fields, patterns_fields, fields_fields, declared_fields, member_fields}
-use Rattle.typing_rules.specs.Terms.{Term, Terms, Fields, unlisted}
+use Rattle.typing_rules.specs.Terms.{Term, Fields, unlisted}
 use Rattle.typing_rules.specs.Terms as t
 use Rattle.typing_rules.specs.TypeScopes.{TypeName, TypeScope, type_named, with_parameters, names_of, term_or}
 use Rattle.desugaring_laws.specs.Scopes.{IsIn, AreIn, FieldsAreIn, IsNameIn}

@@ -1,6 +1,6 @@
 -- Public fields have no type parameters.
 use Rattle.std.proofs.Common.{◌≡◌, ℕ, true, false, List, [], ◌∷◌, refl}
-use Rattle.typing_rules.specs.AbstractSyntax.{TypeParameter, Declaration, Declarations}
+use Rattle.typing_rules.specs.AbstractSyntax.{TypeParameter, Declaration}
 use Rattle.typing_rules.specs.AbstractSyntax as p
 use Rattle.typing_rules.specs.Definitions.{Definitions}
 use Rattle.typing_rules.specs.Judgements.{Fine}

@@ -1,5 +1,5 @@
 -- Signatures once more.
-use Rattle.std.proofs.Common.{◌≡◌, ◌+◌, ◌∙◌, List, [], ◌∷◌, ◌++◌, Option, ap, map, sym, take}
+use Rattle.std.proofs.Common.{◌≡◌, ◌+◌, ◌∙◌, List, [], ◌∷◌, ◌++◌, Option, ap, map, sym}
 use Rattle.std.proofs.lemmas.List.{map-append}
 use Rattle.typing_rules.specs.AbstractSyntax.{Named, Patterns, Signature, TypeNode, TypeParameter}
 use Rattle.typing_rules.specs.TypedTrees.{Note}

@@ -14,7 +14,7 @@ use Rattle.judging.specs.Parts.{Ready}
 use Rattle.judging.specs.Views.{View}
 use Rattle.judging.specs.Answers.{Answers}
 use Rattle.judging.proofs.Steps.{ready_on}
-use Rattle.scope_judging.specs.Binding.{Binds, under}
+use Rattle.scope_judging.specs.Binding.{Binds}
 use Rattle.scope_judging.proofs.Under.{anywhere}
 use Rattle.typed_patterns.specs.Binding.{Names}
 

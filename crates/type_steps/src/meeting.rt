@@ -1,5 +1,5 @@
 //! Types that are met.
-ghost use Rattle.std.specs.Prelude.{◌≡◌, OnOk};
+ghost use Rattle.std.specs.Prelude.{OnOk};
 ghost use Rattle.mo_types.specs.Sub.{Each};
 ghost use Rattle.type_definitions.specs.Tables.{Within};
 ghost use Rattle.met_types.specs.States.{Goes, IsReached, Kept};

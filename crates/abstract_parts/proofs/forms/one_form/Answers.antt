@@ -1,5 +1,4 @@
 use Rattle.std.proofs.Common.{◌∙◌, ap}
-use Rattle.typing_rules.specs.AbstractSyntax.{Expression}
 use Rattle.typing_rules.specs.AbstractSyntax as p
 use Rattle.abstract_tree.specs.TreeView.{plain}
 use Rattle.abstract_tree.proofs.TreeViews as V

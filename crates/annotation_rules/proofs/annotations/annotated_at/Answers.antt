@@ -1,5 +1,4 @@
 use Rattle.std.proofs.Common.{sym}
-use Rattle.abstract_tree.specs.TreeView.{plain}
 use Rattle.abstract_types.specs.TypeView.{type_node}
 use Rattle.annotation_rules.proofs.Annotating.{is_reference, is_value}
 use Rattle.annotation_rules.proofs.annotations.annotated_at.Goals as goal

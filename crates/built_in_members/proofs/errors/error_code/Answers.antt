@@ -1,4 +1,4 @@
-use Rattle.std.proofs.Common.{[], List, length, subst}
+use Rattle.std.proofs.Common.{List, length, subst}
 use Rattle.type_terms.specs.declared.form.Form.TheVariants as form
 use Rattle.type_terms.specs.declared.form.TermId.{TermId}
 use Rattle.typing_rules.specs.Members.{error_code, nat32, refusal}

@@ -2,7 +2,7 @@ use Rattle.std.proofs.Common.{None, Some}
 use Rattle.mo_scopes.specs.Scopes.{named}
 use Rattle.typing_rules.specs.Members.{text_members}
 use Rattle.typing_rules.specs.Terms as t
-use Rattle.built_in_members.specs.Named.{text_names, value_member}
+use Rattle.built_in_members.specs.Named.{text_names}
 use Rattle.built_in_members.proofs.Interned.{added_on, found_written, member_named, none_written}
 use Rattle.built_in_members.proofs.value_members.text_member.Goals as goal
 

@@ -1,4 +1,4 @@
-use Rattle.std.proofs.Common.{◌∙◌, ℕ, [], ◌∷◌, ap, sym}
+use Rattle.std.proofs.Common.{◌∙◌, ℕ, [], ◌∷◌, ap}
 use Rattle.typed_tree.specs.declared.expression.TypedExpression.{TypedExpression}
 use Rattle.mo_values.specs.declared.operation.Operation.TheVariants as op
 use Rattle.value_scopes.specs.Values.{noted}

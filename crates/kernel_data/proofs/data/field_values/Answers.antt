@@ -1,5 +1,4 @@
 use Rattle.std.proofs.Common.{◌∙◌, ap}
-use Rattle.typed_tree.specs.declared.expression.TypedExpression.{TypedExpression}
 use Rattle.desugaring.specs.Frames.{Frame}
 use Rattle.kernel_parts.proofs.Looping.{pushed}
 use Rattle.kernel_data.specs.Fields.{field_of}

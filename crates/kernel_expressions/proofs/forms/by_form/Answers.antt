@@ -1,4 +1,4 @@
-use Rattle.std.proofs.Common.{◌∙◌, ℕ, ap, map, option_map, sym}
+use Rattle.std.proofs.Common.{◌∙◌, ap, map, option_map, sym}
 use Rattle.typing_rules.specs.AbstractSyntax as p
 use Rattle.typing_rules.specs.AbstractSyntax.{Bytes}
 use Rattle.abstract_types.specs.TypeView.{annotation, type_node}

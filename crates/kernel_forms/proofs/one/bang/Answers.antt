@@ -1,6 +1,6 @@
 use Rattle.std.proofs.Common.{◌∙◌, ℕ, [], ◌∷◌, ap}
 use Rattle.typed_tree.specs.declared.expression.TypedExpression.{TypedExpression}
-use Rattle.desugaring.specs.Frames.{exit, is_label, is_optional, is_returned}
+use Rattle.desugaring.specs.Frames.{exit, is_optional}
 use Rattle.typed_tree.specs.declared.action.Action.TheVariants as action
 use Rattle.kernel_nodes.specs.Made.{acts_at}
 use Rattle.kernel_nodes.proofs.Rolling.{if_same}

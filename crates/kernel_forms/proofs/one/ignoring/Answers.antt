@@ -1,4 +1,4 @@
-use Rattle.std.proofs.Common.{[], ◌∷◌, ap}
+use Rattle.std.proofs.Common.{ap}
 use Rattle.typed_tree.specs.declared.expression.TypedExpression.{TypedExpression}
 use Rattle.kernel_nodes.proofs.Rolling.{if_same}
 use Rattle.kernel_parts.specs.Views.{tree_of}

@@ -1,4 +1,4 @@
-use Rattle.std.proofs.Common.{List, ap, subst}
+use Rattle.std.proofs.Common.{List, subst}
 use Rattle.typing_rules.specs.Nodes.{in_expression, in_patterns}
 use Rattle.abstract_types.specs.declared.patterns.Pattern.{Pattern}
 use Rattle.value_scopes.specs.declared.note.Note.{Note}

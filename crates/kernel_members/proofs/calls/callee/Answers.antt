@@ -1,4 +1,3 @@
-use Rattle.std.proofs.Common.{◌∙◌}
 use Rattle.kernel_nodes.proofs.Rolling.{if_same}
 use Rattle.kernel_members.specs.Accesses.{callee_at, callee_of}
 use Rattle.kernel_members.proofs.Heads.{callee_is}

@@ -1,4 +1,3 @@
-use Rattle.std.proofs.Common.{ap}
 use Rattle.judged_parts.specs.Parts.{See}
 use Rattle.kernel_objects.proofs.Collected.{none_more, own_hidden, own_public, same_more}
 use Rattle.kernel_objects.proofs.names.add_public.Goals as goal

@@ -1,4 +1,4 @@
-use Rattle.std.proofs.Common.{◌≡◌, ◌∙◌, List, false, ap}
+use Rattle.std.proofs.Common.{◌∙◌, List, false, ap}
 use Rattle.typed_tree.specs.declared.expression.Step.{Step}
 use Rattle.desugaring.specs.Frames.{Frame}
 use Rattle.kernel_parts.specs.Views.{list_of}

@@ -1,4 +1,4 @@
-use Rattle.std.proofs.Common.{◌∙◌, List, ap, sym}
+use Rattle.std.proofs.Common.{◌∙◌, ap, sym}
 use Rattle.std.specs.Prelude.{None, Some}
 use Rattle.typing_rules.specs.AbstractSyntax.{Bytes}
 use Rattle.kernel_outside.proofs.FramesBehind.{own_as}

@@ -1,4 +1,4 @@
-use Rattle.std.proofs.Common.{◌∙◌, List, [], ◌∷◌, ap, refl}
+use Rattle.std.proofs.Common.{◌∙◌, [], ◌∷◌, ap, refl}
 use Rattle.typing_rules.specs.AbstractSyntax.{Bytes}
 use Rattle.typed_tree.specs.declared.program.StableVariable.{StableVariable}
 use Rattle.abstract_tree.specs.TreeView.{declaration_form}

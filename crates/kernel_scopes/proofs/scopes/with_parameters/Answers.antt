@@ -1,7 +1,7 @@
 use Rattle.std.proofs.Common.{◌∙◌, ap}
-use Rattle.desugaring.specs.Frames.{Frame, with_names}
+use Rattle.desugaring.specs.Frames.{Frame}
 use Rattle.kernel_parts.specs.Views.{tree_of}
-use Rattle.kernel_scopes.specs.Bound.{continued_of, parameters_of}
+use Rattle.kernel_scopes.specs.Bound.{parameters_of}
 use Rattle.kernel_scopes.proofs.Around.{back, cuts}
 use Rattle.kernel_scopes.proofs.scopes.with_parameters.Goals as goal
 

@@ -1,4 +1,4 @@
-use Rattle.std.proofs.Common.{ℕ, List, ap, ◌∙◌, map, refl}
+use Rattle.std.proofs.Common.{ℕ, List, ap, map, refl}
 use Rattle.typing_rules.specs.Nodes.{in_cases, in_each, in_fields, in_list}
 use Rattle.expression_parts.specs.Parts.{seen_parts}
 use Rattle.abstract_tree.specs.declared.declarations.Declaration.{Declaration}

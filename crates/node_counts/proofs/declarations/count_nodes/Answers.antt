@@ -1,4 +1,4 @@
-use Rattle.std.proofs.Common.{◌∙◌, ap}
+use Rattle.std.proofs.Common.{◌∙◌}
 use Rattle.node_counts.proofs.Adding.{from_none}
 use Rattle.node_counts.proofs.declarations.count_nodes.Goals as goal
 

@@ -1,6 +1,3 @@
-use Rattle.std.proofs.Common.{ap}
-use Rattle.typing_rules.specs.Nodes.{in_annotation}
-use Rattle.abstract_types.specs.TypeView.{annotation}
 use Rattle.node_counts.proofs.Adding.{counts_none}
 use Rattle.node_counts.proofs.types.count_annotation.Goals as goal
 

@@ -1,5 +1,4 @@
-use Rattle.std.proofs.Common.{◌++◌, ◌∷◌, [], List, subst, sym, take}
-use Rattle.type_terms.specs.declared.form.TermId.{TermId}
+use Rattle.std.proofs.Common.{List, subst}
 use Rattle.mo_types.specs.declared.node.Field.{Field}
 use Rattle.mo_types.specs.declared.node.TypeId.{TypeId}
 use Rattle.judging.proofs.NodeParts.{take_all}

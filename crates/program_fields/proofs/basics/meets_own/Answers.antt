@@ -1,4 +1,4 @@
-use Rattle.std.proofs.Common.{◌≡◌, ◌∙◌, Option, Some, None, sym}
+use Rattle.std.proofs.Common.{◌∙◌, Some, None, sym}
 use Rattle.program_fields.proofs.Own.{no_own, own_met, own_within}
 use Rattle.program_fields.proofs.basics.meets_own.Goals as goal
 
