@@ -17,7 +17,7 @@ use Rattle.elaboration.specs.Scopes.{Place, Local, Own, Nowhere, place_or_nowher
 use Rattle.elaboration.specs.Checks.{locals}
 use Rattle.elaboration.specs.Meeting.{Extends}
 use Rattle.elaboration_values.specs.Belonging.{Known, code_in, code_of, Names, AlikeFound, StandsAt, EnvironmentBelongs, NamesExtend, OperationsBelong, PatternsBelong, ValuesStay}
-use Rattle.elaboration_values.proofs.Pairs.{Pair, left, right, joint, each_apart}
+use Rattle.mo_values.proofs.Alike.{Pair, left, right, joint, each_apart}
 
 abbrev some_part : Value → Option Value → Value
 some_part d None = d

@@ -12,20 +12,20 @@ use Rattle.mo_values.specs.Views.{Answer, Gives, Traps, Stuck}
 use Rattle.mo_values.proofs.Natural.{natural}
 use Rattle.mo_values.proofs.SameCosts.{same_cost}
 
-record Pair {F G : Type 0} (R : F → G → Type 0) : Type 0 where
-  one : F
-  other : G
-  related : R one other
+pub record Pair {F G : Type 0} (R : F → G → Type 0) : Type 0 where
+  pub one : F
+  pub other : G
+  pub related : R one other
 
 module _ {F G : Type 0} (R : F → G → Type 0) where
-  abbrev left : Pair R → F
+  abbrev pub left : Pair R → F
   left p = p.one
 
-  abbrev right : Pair R → G
+  abbrev pub right : Pair R → G
   right p = p.other
 
   mutual
-    joint : (v : Shape F) (w : Shape G) → Alike R v w → (u : Shape (Pair R)) × (recode left u ≡ v) × (recode right u ≡ w)
+    pub joint : (v : Shape F) (w : Shape G) → Alike R v w → (u : Shape (Pair R)) × (recode left u ≡ v) × (recode right u ≡ w)
     joint (Made head vs) (Made other ws) a =
         let j = joint_all vs ws a.1 in (Made head j.0, ap (λ x. Made head x) j.1, ap (λ x. Made head x) j.2 ∙ ap (λ h. Made h ws) a.0)
     joint (Made head vs) (Function g) a = absurd a
@@ -51,13 +51,17 @@ module _ {F G : Type 0} (R : F → G → Type 0) where
       (i.0 ∷ j.0, ap (λ x. x ∷ recodes left j.0) i.1 ∙ ap (λ x. v ∷ x) j.1, ap (λ x. x ∷ recodes right j.0) i.2 ∙ ap (λ x. w ∷ x) j.2)
 
   mutual
-    apart : (u : Shape (Pair R)) → Alike R (recode left u) (recode right u)
+    pub apart : (u : Shape (Pair R)) → Alike R (recode left u) (recode right u)
     apart (Made head us) = (refl, all_apart us)
     apart (Function p) = p.related
 
     all_apart : (us : Shapes (Pair R)) → AlikeAll R (recode_all left us) (recode_all right us)
     all_apart NoShape = tt
     all_apart (AShape u us) = (apart u, all_apart us)
+
+  pub each_apart : (us : List (Shape (Pair R))) → AlikeEach R (recodes left us) (recodes right us)
+  each_apart [] = tt
+  each_apart (u ∷ us) = (apart u, each_apart us)
 
   answer_apart : (a : Answer (Pair R)) → AlikeAnswers R (recode_answer left a) (recode_answer right a)
   answer_apart (Gives u) = apart u
