@@ -150,7 +150,7 @@ module _ (store : Store) where
   awaited_paid given v = tt
 
   unwrapped_paid : (labels : ℕ) (v : Value) → Paid (unwrapped store labels v)
-  unwrapped_paid labels (Made (Leaf part.Null) NoValue) = tt
+  unwrapped_paid labels (Made (Leaf part.Null) NoValue) = omega arith
   unwrapped_paid labels (Made Present (AValue v NoValue)) = omega arith
   unwrapped_paid labels v = tt
 

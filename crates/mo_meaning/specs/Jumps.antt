@@ -18,9 +18,9 @@ use Rattle.mo_meaning.specs.Matching.{matching, trying, fails_to_match}
 abbrev pub jumps_on : Store → ℕ → Value → Act
 jumps_on store labels v = goes store (Do (action.Break labels) (one (Val v)))
 
--- `e!` in an option block that stands behind so many labels
+-- `e!` in an option block that stands behind so many labels; at null it is a jump, which is a reduction of its own
 abbrev pub unwrapped : Store → ℕ → Value → Act
-unwrapped store labels (Made (Leaf part.Null) NoValue) = Leaves labels null
+unwrapped store labels (Made (Leaf part.Null) NoValue) = jumps_on store labels null
 unwrapped store labels (Made Present (AValue v NoValue)) = goes store (Val v)
 unwrapped store labels _ = Stuck
 

@@ -30,6 +30,7 @@ use Rattle.mo_soundness.specs.Worlds.{World}
 use Rattle.mo_soundness.proofs.Calls.{member_type, MembersKeep, call_keeps, await_keeps, send_keeps}
 use Rattle.mo_soundness.proofs.Cells.{gives, new_keeps, read_keeps, write_keeps, answer_keeps, element_keeps}
 use Rattle.mo_soundness.proofs.Found.{At, opened, made_at, unit_fits, error_of}
+use Rattle.mo_soundness.proofs.More.{longer_self}
 use Rattle.mo_soundness.proofs.Values.{operates}
 use Rattle.mo_soundness.proofs.Wanted.{reflexive}
 
@@ -105,7 +106,7 @@ module _ (world : World) (lawful : IsLawful world.head) (answers : AnswerTypes) 
   unwrap_keeps ls store l o t u v s g n q h = by v (opened world answers kinds t (node.Opt u) v q h)
     where
       by : (v : Value) → At world answers kinds (node.Opt u) t v → K ls (Of u) (unwrapped store l v)
-      by (Made (Leaf part.Null) NoValue) k = (o, g, null_fits o (world.head o) refl n)
+      by (Made (Leaf part.Null) NoValue) k = (kinds, longer_self kinds, s, inl (Of o ∷ [], inr (o, g, refl), (null_fits o (world.head o) refl n, tt)))
       by (Made (Leaf part.Null) (AValue v vs)) k = absurd k.1
       by (Made (Leaf part.Present) inner) k = absurd k.0.0
       by (Made (Leaf p) inner) k = absurd k.0.1
