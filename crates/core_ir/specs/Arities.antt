@@ -26,8 +26,6 @@ arity (primitive.Operate o) = operation_arity o
 arity primitive.Write = Some 2
 arity primitive.WriteElement = Some 3
 arity primitive.ArrayInit = Some 2
-arity primitive.NextVal = Some 2
-arity primitive.NextKey = Some 2
 arity primitive.NextChar = Some 2
 arity _ = Some 1
 

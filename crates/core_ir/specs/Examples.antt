@@ -6,9 +6,8 @@ use Rattle.mo_types.specs.declared.node.Node.TheVariants as node
 use Rattle.mo_values.specs.declared.operation.Operation.TheVariants as op
 use Rattle.mo_values.specs.Shapes.{Bytes}
 use Rattle.core_ir.specs.declared.constant.Constant.TheVariants as constant
-use Rattle.core_ir.specs.declared.primitive.Constructor.TheVariants as constructor
 use Rattle.core_ir.specs.declared.primitive.Primitive.TheVariants as primitive
-use Rattle.core_ir.specs.Expressions.{Exp, Constant?, Name, Do, Functions, Loop, Label, Try, Match, Tabulate, Return, Body, Core}
+use Rattle.core_ir.specs.Expressions.{Exp, Constant?, Name, Do, Functions, Loop, Label, Try, Tabulate, Return, Body, Core}
 use Rattle.core_ir.specs.Writing.{exps, num, nothing, let_in, does, operation, add, sub, mul, var_in, get, add_to, print_number, message, if_same, if_greater, break_with, call, throw, await, ask, body, group, method}
 
 -- the methods of the program below
@@ -92,12 +91,14 @@ whole =
 abbrev leaving : Exp
 leaving = Label (let_in (Try (break_with 0 (num 5)) (num 1)) (add (Name 0) (num 1)))
 
--- `let a = [var 3, 4]; var s = 0; for (x in a.vals()) { s += x }; s`, with `return` for the end of the loop
+-- `let a = [var 3, 4]; var i = 0; var s = 0; while (a.size() > i) { s += a[i]; i += 1 }; s`, with `return` for the end of the loop
 abbrev looped : Exp
 looped =
     let_in (operation op.MakeArray (does primitive.New (num 3 ∷ []) ∷ does primitive.New (num 4 ∷ []) ∷ []))
     (var_in (num 0) (var_in (num 0)
-    (Loop (Do (Match constructor.Present (add_to 1 (Name 0)) (Do Return (exps (get 0 ∷ [])))) (exps (does primitive.NextVal (Name 1 ∷ Name 2 ∷ []) ∷ []))))))
+    (Loop (if_greater (operation op.ArraySize (Name 2 ∷ [])) (get 1)
+    (let_in (add_to 0 (does primitive.Read (operation op.Element (Name 2 ∷ get 1 ∷ []) ∷ []))) (add_to 2 (num 1)))
+    (Do Return (exps (get 0 ∷ [])))))))
 
 -- ---- functions. Of a function the arguments come first, then the functions of its group.
 
@@ -168,7 +169,7 @@ examples = record {
       ∷ method (codes "shared") 0 17 shared
       ∷ method (codes "whole") 1 16 whole
       ∷ method (codes "leaving") 0 9 leaving
-      ∷ method (codes "looped") 0 16 looped
+      ∷ method (codes "looped") 0 24 looped
       ∷ method (codes "sharing") 1 70 sharing
       ∷ method (codes "tabulating") 1 9 tabulating
       ∷ method (codes "__resume") 0 0 nothing

@@ -1,9 +1,10 @@
 -- What primitives do: the table of operations, and what needs the store or prints (Motoko language manual, sections "Variable
 -- declaration" and "Assignment"; base library, modules `Array` and `Debug`, and the iterators of arrays and texts).
-use Rattle.std.specs.Prelude.{ℕ, suc, ◌+◌, ◌*◌, List, [], ◌∷◌, ◌++◌, length, replicate, nat_lt, cond, Option, Some, None, slice_get, slice_set}
+use Rattle.std.specs.Prelude.{ℕ, suc, ◌+◌, ◌*◌, List, [], ◌∷◌, ◌++◌, length, replicate, Bool, true, false, ◌&&◌, ◌||◌, cond, Option, Some, None, slice_get, slice_set}
 use Rattle.std.specs.Str.{chars}
 use Rattle.mo_num.specs.declared.kind.Kind.TheVariants as kind
 use Rattle.mo_num.specs.declared.operator.Operator.TheVariants as operator
+use Rattle.mo_types.specs.declared.datum.Datum.{Datum}
 use Rattle.mo_types.specs.declared.datum.Datum.TheVariants as part
 use Rattle.mo_types.specs.declared.node.Node.{Node}
 use Rattle.mo_types.specs.declared.node.TypeId.{TypeId}
@@ -11,13 +12,14 @@ use Rattle.mo_values.specs.declared.operation.Operation.{Operation}
 use Rattle.mo_values.specs.declared.operation.Operation.TheVariants as op
 use Rattle.mo_values.specs.Costs.{Cost, weighing, operation_cost}
 use Rattle.mo_values.specs.Operations.{operate}
-use Rattle.mo_values.specs.Shapes.{Bytes, size, leaf, unit}
+use Rattle.mo_values.specs.Parts.{is_in_range, same_part}
+use Rattle.mo_values.specs.Shapes.{Bytes, Array, Cell, Made, AShape, size, leaf, unit}
 use Rattle.mo_values.specs.Views as answer
-use Rattle.mo_values.specs.Views.{Answer, natural_of, text_of, array_of}
+use Rattle.mo_values.specs.Views.{Answer, leaf_of, natural_of, text_of, array_of}
 use Rattle.core_ir.specs.declared.primitive.Primitive.{Primitive}
 use Rattle.core_ir.specs.declared.primitive.Primitive.TheVariants as primitive
 use Rattle.core_ir.specs.Choices.{on_some}
-use Rattle.core_ir.specs.Values.{Handle, Value, null, number, present, array, cell, cell_of}
+use Rattle.core_ir.specs.Values.{Handle, Value, null, flag_value, number, present, array, cell, cell_of}
 
 -- the variables, mutable fields and elements of mutable arrays: what each holds
 abbrev pub Store : Type 0
@@ -46,13 +48,32 @@ abbrev pub cells_from : ℕ → List Value → List Value
 cells_from n [] = []
 cells_from n (v ∷ vs) = cell n ∷ cells_from (suc n) vs
 
--- an element of an array; of a mutable array it is what its cell holds now
-abbrev pub current_in : Store → Value → Option ℕ → Option Value
-current_in store v None = Some v
-current_in store v (Some at) = slice_get store at
+-- the elements of a mutable array are cells
+abbrev pub is_cell : Value → Bool
+is_cell (Made (Cell at) inside) = true
+is_cell _ = false
 
-abbrev pub current : Store → Value → Option Value
-current store v = current_in store v (cell_of v)
+abbrev pub is_mutable : Value → Bool
+is_mutable (Made Array (AShape v vs)) = is_cell v
+is_mutable _ = false
+
+-- ---- literals
+
+-- values of one type without parts: of numbers, of one kind at least
+abbrev pub comparable : Datum → Datum → Bool
+comparable (part.Flag a) (part.Flag b) = true
+comparable (part.Number m) (part.Number n) =
+    (is_in_range kind.Int m && is_in_range kind.Int n) || (is_in_range kind.Nat64 m && is_in_range kind.Nat64 n)
+comparable (part.Char c) (part.Char d) = true
+comparable (part.Text t) (part.Text u) = true
+comparable (part.Blob t) (part.Blob u) = true
+comparable _ _ = false
+
+-- a text or Blob is compared whole
+abbrev pub literal_weight : Datum → Value → ℕ
+literal_weight (part.Text t) v = 1 + length t + size v
+literal_weight (part.Blob t) v = 1 + length t + size v
+literal_weight _ v = 1
 
 module _ (head : TypeId → Node TypeId) (store : Store) where
   abbrev pub gives : Value → Done
@@ -62,6 +83,10 @@ module _ (head : TypeId → Node TypeId) (store : Store) where
   answered cost (answer.Gives v) = Gives cost v store
   answered cost (answer.Traps text) = Fails cost text
   answered cost answer.Stuck = Stuck
+
+  abbrev pub tested : Datum → Value → Option Datum → Done
+  tested c v None = Stuck
+  tested c v (Some d) = cond (comparable c d) (Gives (weighing (literal_weight c v)) (flag_value (same_part c d)) store) Stuck
 
   abbrev pub operated : Operation → List Value → Answer Handle → Done
   operated o vs a = answered (operation_cost o vs a) a
@@ -99,20 +124,6 @@ module _ (head : TypeId → Node TypeId) (store : Store) where
   next weight c i None = Gives (weighing weight) null store
   next weight c i (Some v) = advanced weight c v (operate head (op.Arithmetic operator.Add kind.Nat) (number i ∷ number 1 ∷ []))
 
-  -- an array's size has to be a Nat
-  abbrev pub sized : Answer Handle → Done → Done
-  sized (answer.Gives n) d = d
-  sized (answer.Traps text) d = Fails (weighing 1) text
-  sized answer.Stuck d = Stuck
-
-  -- an element that there is holds something
-  abbrev pub next_element : Value → ℕ → Option Value → Done
-  next_element c i None = next 1 c i None
-  next_element c i (Some e) = on_some Stuck (current store e) (λ v. next 1 c i (Some v))
-
-  abbrev pub next_key : Value → ℕ → ℕ → Done
-  next_key c i count = next 1 c i (cond (nat_lt i count) (Some (number i)) None)
-
   -- finding a character looks at the text
   abbrev pub next_char : Value → Value → ℕ → Bytes → Done
   next_char c t i bytes = next (1 + size t) c i (on_some None (slice_get (chars bytes) i) (λ c. Some (leaf (part.Char c))))
@@ -120,6 +131,7 @@ module _ (head : TypeId → Node TypeId) (store : Store) where
   abbrev pub perform : Primitive → List Value → Done
   perform (primitive.Operate o) vs = operated o vs (operate head o vs)
   perform primitive.Copy (v ∷ []) = gives v
+  perform (primitive.Is c) (v ∷ []) = tested c v (leaf_of v)
   perform primitive.New (v ∷ []) = Gives (weighing 1) (cell (length store)) (store ++ v ∷ [])
   perform primitive.Read (c ∷ []) = on_some Stuck (held store (cell_of c)) gives
   perform primitive.Write (c ∷ v ∷ []) = written v (cell_of c)
@@ -127,10 +139,7 @@ module _ (head : TypeId → Node TypeId) (store : Store) where
   perform primitive.ArrayInit (n ∷ v ∷ []) = on_some Stuck (natural_of n) (λ n. celled (replicate n v))
   perform primitive.ArrayFreeze (a ∷ []) = on_some Stuck (array_of a) (λ cs. on_some Stuck (all_held store cs) whole_array)
   perform primitive.ArrayThaw (a ∷ []) = on_some Stuck (array_of a) celled
-  perform primitive.NextVal (c ∷ a ∷ []) =
-      on_some Stuck (array_of a) (λ vs. on_some Stuck (place_in c) (λ i. sized (operate head op.ArraySize (a ∷ [])) (next_element c i (slice_get vs i))))
-  perform primitive.NextKey (c ∷ a ∷ []) =
-      on_some Stuck (array_of a) (λ vs. on_some Stuck (place_in c) (λ i. sized (operate head op.ArraySize (a ∷ [])) (next_key c i (length vs))))
+  perform primitive.IsMutable (v ∷ []) = gives (flag_value (is_mutable v))
   perform primitive.NextChar (c ∷ t ∷ []) = on_some Stuck (text_of t) (λ bytes. on_some Stuck (place_in c) (λ i. next_char c t i bytes))
   perform primitive.Print (t ∷ []) = on_some Stuck (text_of t) (λ text. Prints (weighing (1 + 2 * length text)) text)
   perform _ _ = Stuck

@@ -1,5 +1,6 @@
 //! What is done with values at once.
 use mo_num::Bytes;
+use mo_types::Datum;
 use mo_values::Operation;
 
 /// What is done with the values of operands at once: an operation of the table that all languages share, or what needs the
@@ -9,6 +10,8 @@ pub enum Primitive {
     Operate(Operation),
     /// The operand itself.
     Copy,
+    /// Whether the operand is this literal of its type.
+    Is(Datum),
     /// A new cell that holds the operand.
     New,
     /// What a cell holds.
@@ -23,10 +26,8 @@ pub enum Primitive {
     ArrayFreeze,
     /// `Array.thaw(a)`
     ArrayThaw,
-    /// `next` of `a.vals()`: the cell with its place, and the array.
-    NextVal,
-    /// `next` of `a.keys()`: the cell with its place, and the array.
-    NextKey,
+    /// Whether the operand is an array whose first element is a cell, as those of mutable arrays are.
+    IsMutable,
     /// `next` of `t.chars()`: the cell with its place in characters, and the text.
     NextChar,
     /// `Debug.print(t)`

@@ -1,10 +1,11 @@
 -- Each primitive that gives a value weighs something.
-use Rattle.std.proofs.Common.{ℕ, ◌+◌, ◌≤◌, List, [], ◌∷◌, Option, Some, None, arith as arithmetic}
-use Rattle.std.specs.Prelude.{cond, nat_lt, length, slice_get}
+use Rattle.std.proofs.Common.{ℕ, ◌+◌, ◌≤◌, List, [], ◌∷◌, Bool, true, false, Option, Some, None, arith as arithmetic}
+use Rattle.std.specs.Prelude.{cond, slice_get}
 use Rattle.std.specs.Str.{chars}
 use Rattle.mo_num.specs.declared.kind.Kind.TheVariants as kind
 use Rattle.mo_num.specs.declared.operator.Operator.{Operator}
 use Rattle.mo_num.specs.declared.operator.Operator.TheVariants as operator
+use Rattle.mo_types.specs.declared.datum.Datum.{Datum}
 use Rattle.mo_types.specs.declared.datum.Datum.TheVariants as part
 use Rattle.mo_types.specs.declared.node.Node.{Node}
 use Rattle.mo_types.specs.declared.node.TypeId.{TypeId}
@@ -12,16 +13,17 @@ use Rattle.mo_values.specs.declared.operation.Operation.{Operation}
 use Rattle.mo_values.specs.declared.operation.Operation.TheVariants as op
 use Rattle.mo_values.specs.declared.operation.Scalar.{Scalar}
 use Rattle.mo_values.specs.declared.operation.Scalar.TheVariants as scalar
-use Rattle.mo_values.specs.Costs.{arithmetic_weight, scalar_weight, operation_cost}
+use Rattle.mo_values.specs.Costs.{weighing, arithmetic_weight, scalar_weight, operation_cost}
 use Rattle.mo_values.specs.Operations.{operate}
+use Rattle.mo_values.specs.Parts.{same_part}
 use Rattle.mo_values.specs.Shapes.{size, leaf}
 use Rattle.mo_values.specs.Views as answer
-use Rattle.mo_values.specs.Views.{Answer, natural_of, text_of, array_of}
+use Rattle.mo_values.specs.Views.{Answer, leaf_of, natural_of, text_of, array_of}
 use Rattle.core_ir.specs.declared.primitive.Primitive.{Primitive}
 use Rattle.core_ir.specs.declared.primitive.Primitive.TheVariants as primitive
 use Rattle.core_ir.specs.Choices.{on_some}
-use Rattle.core_ir.specs.Values.{Handle, Value, number, cell_of}
-use Rattle.core_ir.specs.Primitives.{Store, Done, Stuck, operated, written, written_in, advanced, next, sized, next_element, perform, held, place_in, current, all_held}
+use Rattle.core_ir.specs.Values.{Handle, Value, flag_value, number, cell_of}
+use Rattle.core_ir.specs.Primitives.{Store, Done, Gives, Stuck, comparable, literal_weight, tested, operated, written, written_in, advanced, next, perform, held, place_in, all_held}
 use Rattle.core_laws.proofs.Given.{Heavy}
 
 on : {B : Type 0} (o : Option B) (k : B → Done) → ((b : B) → Heavy (k b)) → Heavy (on_some Stuck o k)
@@ -35,6 +37,11 @@ arithmetic_pays operator.Pow = omega arithmetic
 arithmetic_pays operator.Add = omega arithmetic
 arithmetic_pays operator.Sub = omega arithmetic
 arithmetic_pays operator.Mul = omega arithmetic
+
+literal_pays : (c : Datum) (v : Value) → 1 ≤ literal_weight c v
+literal_pays (part.Text t) v = omega arithmetic
+literal_pays (part.Blob t) v = omega arithmetic
+literal_pays _ v = omega arithmetic
 
 scalar_pays : (s : Scalar) (n : ℕ) → 1 ≤ scalar_weight s n
 scalar_pays scalar.Text n = omega arithmetic
@@ -71,6 +78,14 @@ module _ (head : TypeId → Node TypeId) (store : Store) where
   answered_pays o vs (answer.Traps text) = tt
   answered_pays o vs answer.Stuck = tt
 
+  tested_pays : (c : Datum) (v : Value) (o : Option Datum) → Heavy (tested head store c v o)
+  tested_pays c v None = tt
+  tested_pays c v (Some d) = by_test (comparable c d)
+    where
+      by_test : (b : Bool) → Heavy (cond b (Gives (weighing (literal_weight c v)) (flag_value (same_part c d)) store) Stuck)
+      by_test true = literal_pays c v
+      by_test false = tt
+
   written_pays : (v : Value) (o : Option ℕ) → Heavy (written head store v o)
   written_pays v None = tt
   written_pays v (Some at) = omega arithmetic
@@ -89,18 +104,10 @@ module _ (head : TypeId → Node TypeId) (store : Store) where
   next_pays w c i None h = h
   next_pays w c i (Some v) h = advanced_pays w c v (operate head (op.Arithmetic operator.Add kind.Nat) (number i ∷ number 1 ∷ []))
 
-  sized_pays : (a : Answer Handle) (d : Done) → Heavy d → Heavy (sized head store a d)
-  sized_pays (answer.Gives n) d h = h
-  sized_pays (answer.Traps text) d h = tt
-  sized_pays answer.Stuck d h = tt
-
-  next_element_pays : (c : Value) (i : ℕ) (o : Option Value) → Heavy (next_element head store c i o)
-  next_element_pays c i None = next_pays 1 c i None (omega arithmetic)
-  next_element_pays c i (Some e) = on (current store e) _ (λ v. next_pays 1 c i (Some v) (omega arithmetic))
-
   pub heavy : (p : Primitive) (vs : List Value) → Heavy (perform head store p vs)
   heavy (primitive.Operate o) vs = answered_pays o vs (operate head o vs)
   heavy primitive.Copy (v ∷ []) = omega arithmetic
+  heavy (primitive.Is c) (v ∷ []) = tested_pays c v (leaf_of v)
   heavy primitive.New (v ∷ []) = omega arithmetic
   heavy primitive.Read (c ∷ []) = on (held store (cell_of c)) _ (λ v. omega arithmetic)
   heavy primitive.Write (c ∷ v ∷ []) = written_pays v (cell_of c)
@@ -108,10 +115,7 @@ module _ (head : TypeId → Node TypeId) (store : Store) where
   heavy primitive.ArrayInit (n ∷ v ∷ []) = on (natural_of n) _ (λ n. omega arithmetic)
   heavy primitive.ArrayFreeze (a ∷ []) = on (array_of a) _ (λ cs. on (all_held store cs) _ (λ vs. omega arithmetic))
   heavy primitive.ArrayThaw (a ∷ []) = on (array_of a) _ (λ vs. omega arithmetic)
-  heavy primitive.NextVal (c ∷ a ∷ []) =
-      on (array_of a) _ (λ vs. on (place_in head store c) _ (λ i. sized_pays (operate head op.ArraySize (a ∷ [])) _ (next_element_pays c i (slice_get vs i))))
-  heavy primitive.NextKey (c ∷ a ∷ []) =
-      on (array_of a) _ (λ vs. on (place_in head store c) _ (λ i. sized_pays (operate head op.ArraySize (a ∷ [])) _ (next_pays 1 c i (cond (nat_lt i (length vs)) (Some (number i)) None) (omega arithmetic))))
+  heavy primitive.IsMutable (v ∷ []) = omega arithmetic
   heavy primitive.NextChar (c ∷ t ∷ []) =
       on (text_of t) _ (λ bytes. on (place_in head store c) _ (λ i. next_pays (1 + size t) c i (on_some None (slice_get (chars bytes) i) (λ c. Some (leaf (part.Char c)))) (omega arithmetic)))
   heavy primitive.Print (t ∷ []) = on (text_of t) _ (λ text. tt)

@@ -1,15 +1,14 @@
 -- The checks of a pattern do what its match says.
 use Rattle.std.proofs.Common.{◌≡◌, inl, inr, ℕ, suc, ◌+◌, ◌-◌, ◌*◌, ◌≤◌, Bool, true, false, List, [], ◌∷◌, ◌++◌, length, Option, Some, None, slice_get, refl, sym, ap, ◌∙◌, subst, arith}
+use Rattle.std.specs.Prelude.{cond}
 use Rattle.mo_types.specs.declared.datum.Datum.{Datum}
 use Rattle.mo_types.specs.declared.datum.Datum.TheVariants as part
 use Rattle.mo_values.specs.declared.operation.Operation.TheVariants as op
-use Rattle.mo_values.specs.Costs.{weighing, sizes, scalar_weight}
-use Rattle.mo_values.specs.Operations.{flag}
+use Rattle.mo_values.specs.Costs.{weighing}
 use Rattle.mo_values.specs.Parts.{same_part}
-use Rattle.mo_values.specs.Shapes.{Bytes, leaf}
+use Rattle.mo_values.specs.Shapes.{Bytes}
 use Rattle.mo_values.specs.Views as answer
-use Rattle.mo_values.specs.Views.{given, leaf_of, scalar_of, tuple_of}
-use Rattle.core_ir.specs.declared.constant.Constant.TheVariants as constant
+use Rattle.mo_values.specs.Views.{given, leaf_of, tuple_of}
 use Rattle.core_ir.specs.declared.primitive.Constructor.{Constructor}
 use Rattle.core_ir.specs.declared.primitive.Constructor.TheVariants as constructor
 use Rattle.core_ir.specs.declared.primitive.Primitive.{Primitive}
@@ -17,17 +16,18 @@ use Rattle.core_ir.specs.declared.primitive.Primitive.TheVariants as primitive
 use Rattle.core_ir.specs.Choices.{choose}
 use Rattle.core_ir.specs.Values.{Handle, Value, flag_value}
 use Rattle.core_ir.specs.Worlds.{World, Context}
-use Rattle.core_ir.specs.Primitives.{answered}
+use Rattle.core_ir.specs.Primitives as done
+use Rattle.core_ir.specs.Primitives.{answered, comparable, literal_weight, tested}
 use Rattle.core_ir.specs.Expressions as core
-use Rattle.core_ir.specs.Expressions.{Exp, Constant?, Do, Exps, NoExp, Operate, Choose, Match, Core}
-use Rattle.core_ir.specs.CoreMachine.{Frame, Arguments, Join, Focus, Eval, Give, matched, chosen, operated}
+use Rattle.core_ir.specs.Expressions.{Exp, Do, Exps, Operate, Choose, Match, Core}
+use Rattle.core_ir.specs.CoreMachine.{Frame, Join, Focus, Eval, Give, matched, chosen, operated}
 use Rattle.typed_tree.specs.Patterns as pattern
 use Rattle.typed_tree.specs.Patterns.{Pat, Pats, Found, Wildcard, Constant, Present?, Tagged, Parts, Fields, Either, NoPat, APat, matches, matches_all, matches_fields, all_of, first_of_both, where_true, where_there, is_literal, present_of, tagged_of, pattern_nodes, nodes_of_all}
 use Rattle.typed_tree.specs.PatternWeights as weights
 use Rattle.typed_tree.specs.PatternWeights.{pattern_weight, weight_of_all, weight_of_fields}
-use Rattle.elaboration.specs.Scopes.{one, two, name}
+use Rattle.elaboration.specs.Scopes.{one, name}
 use Rattle.elaboration.specs.Checks as checks
-use Rattle.elaboration.specs.Checks.{Check, Load, Opens, IsNull, Holds, Checked, Source, Named, Part, value_of, loads, level_of, names_with, part_of, field_of, scalar_with, truth, either, after, and, check, check_all, check_parts, check_fields, around_all}
+use Rattle.elaboration.specs.Checks.{Check, Load, Opens, IsNull, Holds, Checked, Source, Named, Part, value_of, loads, level_of, names_with, part_of, field_of, truth, either, after, and, check, check_all, check_parts, check_fields, around_all}
 use Rattle.elaboration.specs.Meeting.{OpensTo, MeetsLiteral, Meets, MeetEach, MeetFields, Reads, Extends, Comes, There, Gives, Stands, Decides, allowed, ChecksDecide}
 use Rattle.elaboration.proofs.Coming.{assoc, split, joins_both, reads_new, reads_more, each_more, each_and, cost_of, weaker, seq, step, name_gives, source_gives, on_one, pop, ReadDown, down_more}
 
@@ -197,48 +197,31 @@ module _ (program : Core) (context : Context) (nodes : ℕ) (world : World) wher
         tt,
       )
 
-  abbrev weight_of_same : Datum → Value → ℕ
-  weight_of_same c w = scalar_weight (scalar_with c) (sizes (leaf c ∷ w ∷ []))
-
-  same_check : (c d : Datum) (v : Source) (env : List Value) (w : Value) (k : List Frame) (n : ℕ) → S env v w → leaf_of w ≡ Some d → scalar_of (scalar_with c) w ≡ Some d
-      → scalar_of {F = Handle} (scalar_with c) (leaf c) ≡ Some c → cost_of v + weight_of_same c w ≤ n
+  same_check : (c d : Datum) (v : Source) (env : List Value) (w : Value) (k : List Frame) (n : ℕ) → S env v w → leaf_of w ≡ Some d → comparable c d ≡ true → cost_of v + literal_weight c w ≤ n
       → D (where_true (is_literal c (leaf_of w))) n env k (single (checks.same c (value_of v (length env))) (length env))
-  same_check c d v env w k n s e e1 e2 le =
+  same_check c d v env w k n s e h le =
       subst (λ o. D (where_true (is_literal c o)) n env k (single (checks.same c (value_of v (length env))) (length env))) (sym e)
-      (holds (same_part c d) (primitive.Operate (op.Same (scalar_with c))) (two (Constant? (constant.Leaf c)) (value_of v (length env))) n env k (λ next other. run next other))
-    where
-      run : (next other : Exp) → C n (Eval (Do (Choose (primitive.Operate (op.Same (scalar_with c))) next other) (two (Constant? (constant.Leaf c)) (value_of v (length env)))) env) k (Eval (choose (same_part c d) next other) env) (Join ∷ k)
-      run next other =
-          let g : core.Goal = Choose (primitive.Operate (op.Same (scalar_with c))) next other in
-          let x : Exp = value_of v (length env) in
-          let z : Focus = Eval (choose (same_part c d) next other) env in
-          weaker program context nodes world (0 + (0 + (0 + (cost_of v + (weight_of_same c w + 0))))) n (Eval (Do g (two (Constant? (constant.Leaf c)) x)) env) k z (Join ∷ k) (omega (arith, le))
-          (step program context nodes world 0 (0 + (0 + (cost_of v + (weight_of_same c w + 0)))) _ k (Eval (Constant? (constant.Leaf c)) env) (Arguments g [] (one x) env ∷ k) refl z (Join ∷ k) refl
-          (step program context nodes world 0 (0 + (cost_of v + (weight_of_same c w + 0))) _ _ (Give (leaf c)) (Arguments g [] (one x) env ∷ k) refl z (Join ∷ k) refl
-          (step program context nodes world 0 (cost_of v + (weight_of_same c w + 0)) _ _ (Eval x env) (Arguments g (leaf c ∷ []) NoExp env ∷ k) refl z (Join ∷ k) refl
-          (seq program context nodes world (cost_of v) (weight_of_same c w + 0) (Eval x env) (Arguments g (leaf c ∷ []) NoExp env ∷ k) (Give w) (Arguments g (leaf c ∷ []) NoExp env ∷ k) z (Join ∷ k)
-          (source_gives program context nodes world v env w s (Arguments g (leaf c ∷ []) NoExp env ∷ k))
-          (step program context nodes world (weight_of_same c w) 0 (Give w) (Arguments g (leaf c ∷ []) NoExp env ∷ k) z (Join ∷ k) refl z (Join ∷ k)
-          (ap (λ p. chosen program context nodes world next other env k (answered context.head world.store (weighing (weight_of_same c w)) (given p (λ p. given (scalar_of (scalar_with c) w) (λ q. flag (same_part p q)))))) e2
-          ∙ ap (λ q. chosen program context nodes world next other env k (answered context.head world.store (weighing (weight_of_same c w)) (given q (λ q. flag (same_part c q))))) e1)
-          (There 0 z (Join ∷ k)))))))
+      (holds (same_part c d) (primitive.Is c) (one (value_of v (length env))) n env k (λ next other.
+      weaker program context nodes world (cost_of v + literal_weight c w) n (Eval (Do (Choose (primitive.Is c) next other) (one (value_of v (length env)))) env) k (Eval (choose (same_part c d) next other) env) (Join ∷ k) le
+      (on_one program context nodes world (cost_of v) (literal_weight c w) (Choose (primitive.Is c) next other) (value_of v (length env)) env w k (Eval (choose (same_part c d) next other) env) (Join ∷ k) refl
+      (source_gives program context nodes world v env w s)
+      (ap (λ o. chosen program context nodes world next other env k (tested context.head world.store c w o)) e
+      ∙ ap (λ b. chosen program context nodes world next other env k (cond b (done.Gives (weighing (literal_weight c w)) (flag_value (same_part c d)) world.store) done.Stuck)) h))))
 
   literal_check : (c : Datum) (v : Source) (env : List Value) (w : Value) (k : List Frame) → S env v w → MeetsLiteral c w → D (matches (Constant c) w) (allowed v (Constant c) w) env k (check (Constant c) v (length env))
   literal_check part.Null v env w k s h = null_check v env w k (allowed v (Constant part.Null) w) s h (literal_fits v (Constant part.Null) w 1 (omega arith) (omega arith))
-  literal_check (part.Flag b) v env w k s h = same_check (part.Flag b) (h.0) v env w k (allowed v (Constant (part.Flag b)) w) s (h.1) (h.2) (h.3) (literal_fits v (Constant (part.Flag b)) w 1 (omega arith) (omega arith))
-  literal_check (part.Number z) v env w k s h = same_check (part.Number z) (h.0) v env w k (allowed v (Constant (part.Number z)) w) s (h.1) (h.2) (h.3) (literal_fits v (Constant (part.Number z)) w 1 (omega arith) (omega arith))
-  literal_check (part.Char z) v env w k s h = same_check (part.Char z) (h.0) v env w k (allowed v (Constant (part.Char z)) w) s (h.1) (h.2) (h.3) (literal_fits v (Constant (part.Char z)) w 1 (omega arith) (omega arith))
-  literal_check (part.Text t) v env w k s h =
-      same_check (part.Text t) (h.0) v env w k (allowed v (Constant (part.Text t)) w) s (h.1) (h.2) (h.3) (literal_fits v (Constant (part.Text t)) w (weight_of_same (part.Text t) w) (omega arith) (omega arith))
-  literal_check (part.Blob t) v env w k s h =
-      same_check (part.Blob t) (h.0) v env w k (allowed v (Constant (part.Blob t)) w) s (h.1) (h.2) (h.3) (literal_fits v (Constant (part.Blob t)) w (weight_of_same (part.Blob t) w) (omega arith) (omega arith))
-  literal_check (part.Principal t) v env w k s h = absurd (let z : None ≡ Some (part.Principal t) = h.3 in cc)
-  literal_check (part.Actor t) v env w k s h = absurd (let z : None ≡ Some (part.Actor t) = h.3 in cc)
-  literal_check (part.Method t m) v env w k s h = absurd (let z : None ≡ Some (part.Method t m) = h.3 in cc)
-  literal_check part.Present v env w k s h = absurd (let z : None ≡ Some part.Present = h.3 in cc)
-  literal_check (part.Many t) v env w k s h = absurd (let z : None ≡ Some (part.Many t) = h.3 in cc)
-  literal_check (part.Record t) v env w k s h = absurd (let z : None ≡ Some (part.Record t) = h.3 in cc)
-  literal_check (part.Tag t) v env w k s h = absurd (let z : None ≡ Some (part.Tag t) = h.3 in cc)
+  literal_check (part.Flag b) v env w k s h = same_check (part.Flag b) (h.0) v env w k (allowed v (Constant (part.Flag b)) w) s (h.1) (h.2) (literal_fits v (Constant (part.Flag b)) w 1 (omega arith) (omega arith))
+  literal_check (part.Number z) v env w k s h = same_check (part.Number z) (h.0) v env w k (allowed v (Constant (part.Number z)) w) s (h.1) (h.2) (literal_fits v (Constant (part.Number z)) w 1 (omega arith) (omega arith))
+  literal_check (part.Char z) v env w k s h = same_check (part.Char z) (h.0) v env w k (allowed v (Constant (part.Char z)) w) s (h.1) (h.2) (literal_fits v (Constant (part.Char z)) w 1 (omega arith) (omega arith))
+  literal_check (part.Text t) v env w k s h = same_check (part.Text t) (h.0) v env w k (allowed v (Constant (part.Text t)) w) s (h.1) (h.2) (literal_fits v (Constant (part.Text t)) w (literal_weight (part.Text t) w) (omega arith) (omega arith))
+  literal_check (part.Blob t) v env w k s h = same_check (part.Blob t) (h.0) v env w k (allowed v (Constant (part.Blob t)) w) s (h.1) (h.2) (literal_fits v (Constant (part.Blob t)) w (literal_weight (part.Blob t) w) (omega arith) (omega arith))
+  literal_check (part.Principal t) v env w k s h = same_check (part.Principal t) (h.0) v env w k (allowed v (Constant (part.Principal t)) w) s (h.1) (h.2) (literal_fits v (Constant (part.Principal t)) w 1 (omega arith) (omega arith))
+  literal_check (part.Actor t) v env w k s h = same_check (part.Actor t) (h.0) v env w k (allowed v (Constant (part.Actor t)) w) s (h.1) (h.2) (literal_fits v (Constant (part.Actor t)) w 1 (omega arith) (omega arith))
+  literal_check (part.Method t m) v env w k s h = same_check (part.Method t m) (h.0) v env w k (allowed v (Constant (part.Method t m)) w) s (h.1) (h.2) (literal_fits v (Constant (part.Method t m)) w 1 (omega arith) (omega arith))
+  literal_check part.Present v env w k s h = same_check part.Present (h.0) v env w k (allowed v (Constant part.Present) w) s (h.1) (h.2) (literal_fits v (Constant part.Present) w 1 (omega arith) (omega arith))
+  literal_check (part.Many t) v env w k s h = same_check (part.Many t) (h.0) v env w k (allowed v (Constant (part.Many t)) w) s (h.1) (h.2) (literal_fits v (Constant (part.Many t)) w 1 (omega arith) (omega arith))
+  literal_check (part.Record t) v env w k s h = same_check (part.Record t) (h.0) v env w k (allowed v (Constant (part.Record t)) w) s (h.1) (h.2) (literal_fits v (Constant (part.Record t)) w 1 (omega arith) (omega arith))
+  literal_check (part.Tag t) v env w k s h = same_check (part.Tag t) (h.0) v env w k (allowed v (Constant (part.Tag t)) w) s (h.1) (h.2) (literal_fits v (Constant (part.Tag t)) w 1 (omega arith) (omega arith))
 
   -- ---- alternatives
 

@@ -1,14 +1,9 @@
 -- What is done with a value where a pattern meets it (Motoko language manual, section "Patterns"): checks and loads, one after another, each
 -- around those behind it. A part of the value is loaded once, and a name stands for it where it is bound or looked into.
-use Rattle.std.specs.Prelude.{ℕ, suc, ◌-◌, List, [], ◌∷◌, ◌++◌, map, Bool, true, false, cond, ℤ, int_le, codes}
-use Rattle.mo_num.specs.declared.kind.Kind.{Kind}
-use Rattle.mo_num.specs.declared.kind.Kind.TheVariants as kind
-use Rattle.mo_num.specs.Kinds.{greatest}
+use Rattle.std.specs.Prelude.{ℕ, suc, ◌-◌, List, [], ◌∷◌, ◌++◌, map, Bool, true, false, codes}
 use Rattle.mo_types.specs.declared.datum.Datum.{Datum}
 use Rattle.mo_types.specs.declared.datum.Datum.TheVariants as part
 use Rattle.mo_values.specs.declared.operation.Operation.TheVariants as op
-use Rattle.mo_values.specs.declared.operation.Scalar.{Scalar}
-use Rattle.mo_values.specs.declared.operation.Scalar.TheVariants as scalar
 use Rattle.mo_values.specs.Shapes.{Bytes}
 use Rattle.core_ir.specs.declared.constant.Constant.TheVariants as constant
 use Rattle.core_ir.specs.declared.primitive.Constructor.{Constructor}
@@ -18,7 +13,7 @@ use Rattle.core_ir.specs.declared.primitive.Primitive.TheVariants as primitive
 use Rattle.core_ir.specs.Expressions.{Exp, Constant?, Do, Exps, NoExp, Operate, Choose, Match, Bind}
 use Rattle.typed_tree.specs.Patterns as pattern
 use Rattle.typed_tree.specs.Patterns.{Pat, Pats, Wildcard, Constant, Present?, Tagged, Parts, Fields, Either, NoPat, APat}
-use Rattle.elaboration.specs.Scopes.{Place, Local, Scope, one, two, name}
+use Rattle.elaboration.specs.Scopes.{Place, Local, Scope, one, name}
 
 pub data Check : Type 0 where
   -- the value is the nearest name in what follows
@@ -89,20 +84,10 @@ field_of l level names = Part (Do (Operate (primitive.Operate (op.Field l))) (on
 
 -- ---- literals
 
--- a kind with the number, as great as one can be
-abbrev pub kind_with : ℤ → Kind
-kind_with n = cond (int_le n (greatest kind.Int)) kind.Int kind.Nat64
-
-abbrev pub scalar_with : Datum → Scalar
-scalar_with (part.Flag b) = scalar.Bool
-scalar_with (part.Number n) = scalar.Number (kind_with n)
-scalar_with (part.Char c) = scalar.Char
-scalar_with (part.Blob t) = scalar.Blob
-scalar_with _ = scalar.Text
-
 abbrev pub same : Datum → Exp → Check
-same part e = Holds (primitive.Operate (op.Same (scalar_with part))) (two (Constant? (constant.Leaf part)) e)
+same p e = Holds (primitive.Is p) (one e)
 
+-- what is inside an option has no literal
 abbrev pub literal : Datum → Exp → Check
 literal part.Null e = IsNull e
 literal p e = same p e

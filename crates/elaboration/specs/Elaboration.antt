@@ -18,7 +18,7 @@ use Rattle.typed_tree.specs.Language.{Value, Exp, Exps, Cases, Functions, Made, 
 use Rattle.typed_tree.specs.Substitution.{count}
 use Rattle.elaboration.specs.Scopes.{Scope, one, two, nothing, read_name, leaving, beside, inside, labelled, under, in_body}
 use Rattle.elaboration.specs.Checks.{Checked, Named, check, check_all, around_all, behind, fails}
-use Rattle.elaboration.specs.Members.{Elaborated, form_of, function_of, called, bind_all, let_in, does}
+use Rattle.elaboration.specs.Members.{Elaborated, form_of, function_of, levels_from, called, bind_all, let_in, does}
 
 -- ---- words
 
@@ -115,7 +115,7 @@ abbrev mutual
       record { exp = f.exp; groups = d.groups ++ (e.groups ++ f.groups) }
   elaborate s n (source.Do (action.BuiltIn m) es) =
       let d : ManyElaborated = elaborate_names s n es in
-      let f : Elaborated = function_of (form_of m) (count_of es + s.names) s.names (n + length d.groups) in
+      let f : Elaborated = function_of (form_of m) (count_of es + s.names) (levels_from s.names (count_of es)) (n + length d.groups) in
       record { exp = bind_all d.exps f.exp; groups = d.groups ++ f.groups }
   elaborate s n (source.Do a es) =
       let d : ManyElaborated = elaborate_operands s n es in

@@ -1,23 +1,24 @@
 -- What the checks of a pattern do: on values that they may stand on, what the pattern's match says, at no more than twice its weight
 -- (Motoko language manual, section "Patterns").
-use Rattle.std.specs.Prelude.{◌≡◌, ◌⊎◌, ℕ, suc, ◌+◌, ◌-◌, ◌*◌, ◌<◌, ◌≤◌, List, [], ◌∷◌, ◌++◌, length, Option, Some, None, slice_get}
+use Rattle.std.specs.Prelude.{◌≡◌, ◌⊎◌, ℕ, suc, ◌+◌, ◌-◌, ◌*◌, ◌<◌, ◌≤◌, List, [], ◌∷◌, ◌++◌, length, true, Option, Some, None, slice_get}
 use Rattle.mo_types.specs.declared.datum.Datum.{Datum}
 use Rattle.mo_types.specs.declared.datum.Datum.TheVariants as part
 use Rattle.mo_values.specs.Costs.{weighing}
-use Rattle.mo_values.specs.Shapes.{Bytes, leaf}
-use Rattle.mo_values.specs.Views.{leaf_of, scalar_of, tuple_of, field_of}
+use Rattle.mo_values.specs.Shapes.{Bytes}
+use Rattle.mo_values.specs.Views.{leaf_of, tuple_of, field_of}
 use Rattle.core_ir.specs.declared.primitive.Constructor.{Constructor}
 use Rattle.core_ir.specs.declared.primitive.Constructor.TheVariants as constructor
 use Rattle.core_ir.specs.Values.{Handle, Value}
 use Rattle.core_ir.specs.Worlds.{World, Context}
 use Rattle.core_ir.specs.Executions.{Go}
+use Rattle.core_ir.specs.Primitives.{comparable}
 use Rattle.core_ir.specs.Openings.{Inside, Otherwise, opened}
 use Rattle.core_ir.specs.Expressions.{Exp, Core}
 use Rattle.core_ir.specs.CoreMachine.{Frame, Join, Focus, Eval, Give, focused, at, depth_of}
 use Rattle.typed_tree.specs.Patterns as pattern
 use Rattle.typed_tree.specs.Patterns.{Pat, Pats, Found, Wildcard, Constant, Present?, Tagged, Parts, Fields, Either, NoPat, APat, matches, present_of, tagged_of}
 use Rattle.typed_tree.specs.PatternWeights.{pattern_weight}
-use Rattle.elaboration.specs.Checks.{Checked, Source, Named, Part, scalar_with, check, around_all}
+use Rattle.elaboration.specs.Checks.{Checked, Source, Named, Part, check, around_all}
 
 -- ---- values on which a pattern may stand: those of its type
 
@@ -29,7 +30,7 @@ OpensTo c w (Some u) P = (opened c w ≡ Inside u) × P u
 abbrev pub MeetsLiteral : Datum → Value → Type 0
 MeetsLiteral part.Null w =
     ((opened constructor.Present w ≡ Otherwise) × (leaf_of w ≡ Some part.Null)) ⊎ ((u : Value) × (opened constructor.Present w ≡ Inside u) × (leaf_of w ≡ None))
-MeetsLiteral c w = (d : Datum) × (leaf_of w ≡ Some d) × (scalar_of (scalar_with c) w ≡ Some d) × (scalar_of {F = Handle} (scalar_with c) (leaf c) ≡ Some c)
+MeetsLiteral c w = (d : Datum) × (leaf_of w ≡ Some d) × (comparable c d ≡ true)
 
 abbrev mutual
   pub Meets : Pat → Value → Type 0

@@ -8,7 +8,7 @@ use Rattle.typed_tree.specs.Language.{Exp, Exps, Cases, Functions, Val, Switch, 
 use Rattle.typed_tree.specs.Substitution.{count}
 use Rattle.elaboration.specs.Scopes.{Scope, beside, inside, labelled, under, in_body}
 use Rattle.elaboration.specs.Checks.{Named, check, behind}
-use Rattle.elaboration.specs.Members.{Elaborated, form_of, function_of, called}
+use Rattle.elaboration.specs.Members.{Elaborated, form_of, function_of, levels_from, called}
 use Rattle.elaboration.specs.Elaboration.{ManyElaborated, BodiesElaborated, elaborate, elaborate_operands, elaborate_names, elaborate_cases, elaborate_functions, number_of_parameters, on_nearest, on_parameters, count_of}
 use Rattle.elaboration_forms.specs.Elaborates.{HasGroups, Elaborates, ElaboratesAll, ElaboratesNames, ElaboratesCases, ElaboratesFunctions, Stands, StandAll, StandNames, StandCases, StandFunctions}
 
@@ -34,11 +34,11 @@ module _ (table : List (Group Body)) where
         let k : ℕ = n + length d.groups + length e.groups in
         let i = apart d.groups (e.groups ++ (called (form_of m) d.exps e.exps s.names k).groups) n h in
         let j = apart e.groups (called (form_of m) d.exps e.exps s.names k).groups (n + length d.groups) (i.1) in
-        (d.exps, e.exps, k, elaborates_all b s n es (t.0) (i.0), elaborates_all b s (n + length d.groups) args (t.1) (j.0), j.1, refl)
+        (d.exps, e.exps, k, elaborates_all b s n es (t.0) (i.0), elaborates_all b s (n + length d.groups) args (t.1) (j.0), j.1, refl, t.2)
     elaborates b s n (source.Do (action.BuiltIn m) es) t h =
         let d : ManyElaborated = elaborate_names s n es in
-        let i = apart d.groups (function_of (form_of m) (count_of es + s.names) s.names (n + length d.groups)).groups n h in
-        (d.exps, n + length d.groups, elaborates_names b s n es t (i.0), i.1, refl)
+        let i = apart d.groups (function_of (form_of m) (count_of es + s.names) (levels_from s.names (count_of es)) (n + length d.groups)).groups n h in
+        (d.exps, n + length d.groups, elaborates_names b s n es (t.0) (i.0), i.1, refl, t.1)
     elaborates b s n (source.Do a es) t h = ((elaborate_operands s n es).exps, t.0, elaborates_all b s n es (t.1) h, refl)
     elaborates b s n (source.If x a e) t h =
         let p : Elaborated = elaborate s n x in

@@ -1,6 +1,6 @@
 -- What it is that code of Core is that of an expression of the source. Which number a group of functions has is left open. In the body of a
 -- shared function stand calls of such functions, awaits and errors, and in other functions none.
-use Rattle.std.specs.Prelude.{◌≡◌, ℕ, suc, ◌+◌, Bool, true, false, List, [], ◌∷◌, Some, slice_get}
+use Rattle.std.specs.Prelude.{◌≡◌, ℕ, suc, ◌+◌, ◌≤◌, Bool, true, false, List, [], ◌∷◌, Some, slice_get}
 use Rattle.mo_values.specs.Shapes.{Leaf, Tuple}
 use Rattle.core_ir.specs.declared.primitive.Constructor.TheVariants as constructor
 use Rattle.core_ir.specs.declared.primitive.Primitive.TheVariants as primitive
@@ -14,7 +14,7 @@ use Rattle.typed_tree.specs.Language.{Value, Exp, Exps, Cases, Functions, Made, 
 use Rattle.typed_tree.specs.Substitution.{count}
 use Rattle.elaboration.specs.Scopes.{Place, Local, Own, Nowhere, Scope, one, two, nothing, read_name, place_or_nowhere, beside, inside, labelled, under, in_body}
 use Rattle.elaboration.specs.Checks.{Named, check, around_all, behind, fails}
-use Rattle.elaboration.specs.Members.{form_of, function_of, called, bind_all, let_in, does}
+use Rattle.elaboration.specs.Members.{Form, Does, form_of, function_of, levels_from, called, bind_all, let_in, does}
 use Rattle.elaboration.specs.Elaboration.{constant_of, break_with, if_true, goal_of, next_of, number_of_parameters, on_nearest, on_parameters, count_of}
 
 -- a value that stands in a program
@@ -37,6 +37,11 @@ May shared (action.Send ps rs) = shared ≡ true
 May shared action.Await = shared ≡ true
 May shared a = Unit {0}
 
+-- of what is called as a value, as where it is one, one operand at most is written
+abbrev pub AtOnce : Form → ℕ → Type 0
+AtOnce (Does goal holds parameters) n = Unit {0}
+AtOnce _ n = n ≤ 1
+
 -- these groups stand in the table from this number on
 abbrev pub HasGroups : List (Group Body) → ℕ → List (Group Body) → Type 0
 HasGroups table n [] = Unit {0}
@@ -48,10 +53,10 @@ module _ (table : List (Group Body)) where
     Elaborates b s (Val v) c = IsLiteral v × (c ≡ constant_of v)
     Elaborates b s (source.Name x) c = HasPlace s x × (c ≡ read_name s x)
     Elaborates b s (source.Do action.Call (source.AnExp (source.Do (action.BuiltIn m) es) args)) c =
-        (ds fs : core.Exps) × (n : ℕ) × ElaboratesAll b s es ds × ElaboratesAll b s args fs × HasGroups table n (called (form_of m) ds fs s.names n).groups × (c ≡ (called (form_of m) ds fs s.names n).exp)
+        (ds fs : core.Exps) × (n : ℕ) × ElaboratesAll b s es ds × ElaboratesAll b s args fs × HasGroups table n (called (form_of m) ds fs s.names n).groups × (c ≡ (called (form_of m) ds fs s.names n).exp) × AtOnce (form_of m) (count_of es)
     Elaborates b s (source.Do (action.BuiltIn m) es) c =
-        (ds : core.Exps) × (n : ℕ) × ElaboratesNames b s es ds × HasGroups table n (function_of (form_of m) (count_of es + s.names) s.names n).groups
-        × (c ≡ bind_all ds (function_of (form_of m) (count_of es + s.names) s.names n).exp)
+        (ds : core.Exps) × (n : ℕ) × ElaboratesNames b s es ds × HasGroups table n (function_of (form_of m) (count_of es + s.names) (levels_from s.names (count_of es)) n).groups
+        × (c ≡ bind_all ds (function_of (form_of m) (count_of es + s.names) (levels_from s.names (count_of es)) n).exp) × (count_of es ≤ 1)
     Elaborates b s (source.Do a es) c = (ds : core.Exps) × May b a × ElaboratesAll b s es ds × (c ≡ core.Do (goal_of s a) ds)
     Elaborates b s (source.If x a d) c = (y z w : core.Exp) × Elaborates b s x y × Elaborates b s a z × Elaborates b s d w × (c ≡ if_true y z w)
     Elaborates b s (Switch e (ACase p d NoCase)) c =
@@ -101,8 +106,8 @@ abbrev mutual
   pub Stands : Bool → Scope → Exp → Type 0
   Stands b s (Val v) = IsLiteral v
   Stands b s (source.Name x) = HasPlace s x
-  Stands b s (source.Do action.Call (source.AnExp (source.Do (action.BuiltIn m) es) args)) = StandAll b s es × StandAll b s args
-  Stands b s (source.Do (action.BuiltIn m) es) = StandNames b s es
+  Stands b s (source.Do action.Call (source.AnExp (source.Do (action.BuiltIn m) es) args)) = StandAll b s es × StandAll b s args × AtOnce (form_of m) (count_of es)
+  Stands b s (source.Do (action.BuiltIn m) es) = StandNames b s es × (count_of es ≤ 1)
   Stands b s (source.Do a es) = May b a × StandAll b s es
   Stands b s (source.If x a d) = Stands b s x × Stands b s a × Stands b s d
   Stands b s (Switch e (ACase p d NoCase)) = Stands b s e × Stands b (behind (on_nearest p s) s) d

@@ -93,7 +93,7 @@ module _ (n : ℕ) where
 
   literal_below : (c : Datum) (e : Exp) → Below n e → CheckBelow n (literal c e)
   literal_below part.Null e a = a
-  literal_below _ e a = (tt, (a, tt))
+  literal_below _ e a = (a, tt)
 
   mutual
     pub check_below : (p : Pat) (v : Source) (m : ℕ) → SourceBelow v → ChecksBelow n (check p v m).checks

@@ -1,5 +1,5 @@
 -- What elaboration makes names groups that were made before.
-use Rattle.std.proofs.Common.{◌≡◌, ℕ, zero, suc, ◌+◌, ◌-◌, ◌<◌, List, [], ◌∷◌, ◌++◌, length, Option, Some, None, slice_get, refl, sym, ap, subst, arith}
+use Rattle.std.proofs.Common.{◌≡◌, ℕ, Bool, true, false, zero, suc, ◌+◌, ◌-◌, ◌<◌, List, [], ◌∷◌, ◌++◌, length, Option, Some, None, slice_get, refl, sym, ap, subst, arith}
 use Rattle.std.specs.Prelude.{take, replicate}
 use Rattle.mo_values.specs.Shapes.{Leaf}
 use Rattle.mo_types.specs.declared.node.Sort.TheVariants as sort
@@ -19,7 +19,7 @@ use Rattle.typed_tree.specs.Substitution.{count}
 use Rattle.typed_tree.specs.Programs.{Program}
 use Rattle.elaboration.specs.Scopes.{Place, Local, Own, Nowhere, Scope, one, two, nothing, name, append, at_place, place_or_nowhere, leave, beside, inside, labelled, under, in_body}
 use Rattle.elaboration.specs.Checks.{Checked, Named, check, around_all, behind, fails}
-use Rattle.elaboration.specs.Members.{Elaborated, Form, Does, Iterates, Steps, form_of, function_of, called, bind_all, names_at, nearest, iterator, let_in, does}
+use Rattle.elaboration.specs.Members.{Elaborated, Over, Elements, Places, Characters, Form, Does, Calls, Iterates, Steps, form_of, levels_from, names_of, first, second, element, place, next_by, next, function_of, amount, called, bind_all, nearest, let_in, does}
 use Rattle.elaboration.specs.Elaboration.{ManyElaborated, BodiesElaborated, elaborate, elaborate_operands, elaborate_names, elaborate_cases, elaborate_functions, number_of_parameters, on_nearest, on_parameters, count_of, goal_of, constant_of, if_true, break_with, next_of}
 use Rattle.elaboration.specs.Programs.{Hook, SaveElaborated, elaborate_actor, ending, save_of, start_end, hook_of, firsts, held_in, cells_of, outside, numbered, start_scope, elaborated}
 use Rattle.elaboration_order.proofs.Making.{Below, AllBelow, more, more_all, more_bodies, groups_and, around_below, check_below, all_below}
@@ -109,9 +109,9 @@ bind_below : (m : ℕ) (es : core.Exps) (e : core.Exp) → AllBelow m es → Bel
 bind_below m NoExp e a b = b
 bind_below m (AnExp x es) e a b = (bind_below m es e (a.1) b, (a.0, tt))
 
-names_below : (m names level n : ℕ) → AllBelow m (names_at names level n)
-names_below m names level zero = tt
-names_below m names level (suc n) = (tt, names_below m names (suc level) n)
+names_below : (m names : ℕ) (levels : List ℕ) → AllBelow m (names_of names levels)
+names_below m names [] = tt
+names_below m names (level ∷ levels) = (tt, names_below m names levels)
 
 nearest_below : (m i n : ℕ) → AllBelow m (nearest i n)
 nearest_below m i zero = tt
@@ -120,6 +120,7 @@ nearest_below m i (suc n) = (tt, nearest_below m (suc i) n)
 -- its goal makes no groups
 abbrev FormMakes : Form → Type 0
 FormMakes (Does goal holds parameters) = (m : ℕ) → MakesGoal (λ k. k < m) goal
+FormMakes (Calls goal parameters) = (m : ℕ) → MakesGoal (λ k. k < m) goal
 FormMakes (Iterates next) = Unit {0}
 FormMakes (Steps next) = Unit {0}
 
@@ -145,23 +146,39 @@ form_makes member.NextVal = tt
 form_makes member.NextKey = tt
 form_makes member.NextChar = tt
 
+element_below : (m : ℕ) (mutable : Bool) (names array i : ℕ) → Below m (element mutable (name names array) (name names i))
+element_below m true names array i = (tt, ((tt, (tt, (tt, tt))), tt))
+element_below m false names array i = (tt, (tt, (tt, tt)))
+
+next_by_below : (m : ℕ) (at : core.Exp → core.Exp → core.Exp) (names array cell : ℕ) → Below m (at (name (suc (suc names)) array) (name (suc (suc names)) names)) → Below m (next_by at names array cell)
+next_by_below m at names array cell h = (((((tt, (h, tt)), ((tt, (tt, ((tt, (tt, (tt, tt))), tt))), tt)), tt), ((tt, (tt, ((tt, (tt, tt)), tt))), tt)), ((tt, (tt, tt)), tt))
+
+next_below : (m : ℕ) (over : Over) (names level cell : ℕ) → Below m (next over names level cell)
+next_below m Elements names level cell =
+    ((next_by_below m (element true) names level cell (element_below m true (suc (suc names)) level names), next_by_below m (element false) names level cell (element_below m false (suc (suc names)) level names)), (tt, tt))
+next_below m Places names level cell = next_by_below m place names level cell tt
+next_below m Characters names level cell = (tt, (tt, (tt, tt)))
+
+function_good : (f : Form) → FormMakes f → (names : ℕ) (levels : List ℕ) (n : ℕ) → Good n (function_of f names levels n)
+function_good (Does goal holds parameters) h names levels n =
+    record { exp = (omega arith, tt); groups = (((h n, append_below n (names_of (parameters + suc names) levels) (nearest 0 parameters) (names_below n (parameters + suc names) levels) (nearest_below n 0 parameters)), tt), tt) }
+function_good (Calls goal parameters) h names levels n = record { exp = (omega arith, tt); groups = (((h n, nearest_below n 0 parameters), tt), tt) }
+function_good (Iterates over) h names levels n =
+    record { exp = (omega arith, tt); groups = ((next_below n over (suc (suc (suc names))) (first levels) (suc names), tt), (((tt, (((omega arith, tt), ((tt, (tt, tt)), tt)), tt)), tt), tt)) }
+function_good (Steps over) h names levels n = record { exp = (omega arith, tt); groups = ((next_below n over (suc names) (first levels) (second levels), tt), tt) }
+
 called_good : (f : Form) → FormMakes f → (es args : core.Exps) (names n : ℕ) → AllBelow n es → AllBelow n args → Good n (called f es args names n)
 called_good (Does goal holds parameters) h es args names n a b =
     record { exp = (h (n + 0), append_below (n + 0) es args (more_all n (n + 0) (omega arith) es a) (more_all n (n + 0) (omega arith) args b)); groups = tt }
-called_good (Iterates next) h es args names n a b =
-    record {
-      exp = bind_below (n + 1) es (iterator next (suc names) names n).exp (more_all n (n + 1) (omega arith) es a) ((omega arith, (tt, (tt, tt))), ((tt, (tt, tt)), tt));
-      groups = (((tt, (tt, (tt, tt))), tt), tt);
-    }
-called_good (Steps next) h es args names n a b =
-    record { exp = bind_below (n + 0) es (does next (two (name (2 + names) (suc names)) (name (2 + names) names))) (more_all n (n + 0) (omega arith) es a) (tt, (tt, (tt, tt))); groups = tt }
-
-function_good : (f : Form) → FormMakes f → (names level n : ℕ) → Good n (function_of f names level n)
-function_good (Does goal holds parameters) h names level n =
-    record { exp = (omega arith, tt); groups = (((h n, append_below n (names_at (parameters + suc names) level holds) (nearest 0 parameters) (names_below n (parameters + suc names) level holds) (nearest_below n 0 parameters)), tt), tt) }
-function_good (Iterates next) h names level n =
-    record { exp = (omega arith, tt); groups = (((tt, (tt, (tt, tt))), tt), ((((omega arith, (tt, (tt, tt))), ((tt, (tt, tt)), tt)), tt), tt)) }
-function_good (Steps next) h names level n = record { exp = (omega arith, tt); groups = (((tt, (tt, (tt, tt))), tt), tt) }
+called_good (Calls goal parameters) h es args names n a b =
+    let f : Good n (function_of (Calls goal parameters) (amount es + names) (levels_from names (amount es)) n) = function_good (Calls goal parameters) h (amount es + names) (levels_from names (amount es)) n in
+    record { exp = (tt, (bind_below (n + 1) es (core.Functions n (core.Name 0)) (more_all n (n + 1) (omega arith) es a) f.exp, more_all n (n + 1) (omega arith) args b)); groups = f.groups }
+called_good (Iterates over) h es args names n a b =
+    let f : Good n (function_of (Iterates over) (amount es + names) (levels_from names (amount es)) n) = function_good (Iterates over) h (amount es + names) (levels_from names (amount es)) n in
+    record { exp = (tt, (bind_below (n + 2) es (core.Functions (suc n) (core.Name 0)) (more_all n (n + 2) (omega arith) es a) f.exp, more_all n (n + 2) (omega arith) args b)); groups = f.groups }
+called_good (Steps over) h es args names n a b =
+    let f : Good n (function_of (Steps over) (amount es + names) (levels_from names (amount es)) n) = function_good (Steps over) h (amount es + names) (levels_from names (amount es)) n in
+    record { exp = (tt, (bind_below (n + 1) es (core.Functions n (core.Name 0)) (more_all n (n + 1) (omega arith) es a) f.exp, more_all n (n + 1) (omega arith) args b)); groups = f.groups }
 
 mutual
   good : (s : Scope) (n : ℕ) (e : Exp) → Good n (elaborate s n e)
@@ -181,9 +198,9 @@ mutual
       }
   good s n (source.Do (action.BuiltIn m) es) =
       let d : ManyElaborated = elaborate_names s n es in
-      let f : Elaborated = function_of (form_of m) (count_of es + s.names) s.names (n + length d.groups) in
+      let f : Elaborated = function_of (form_of m) (count_of es + s.names) (levels_from s.names (count_of es)) (n + length d.groups) in
       let a : GoodAll n d = good_names s n es in
-      let c : Good (n + length d.groups) f = function_good (form_of m) (form_makes m) (count_of es + s.names) s.names (n + length d.groups) in
+      let c : Good (n + length d.groups) f = function_good (form_of m) (form_makes m) (count_of es + s.names) (levels_from s.names (count_of es)) (n + length d.groups) in
       record { exp = bind_below (n + length (d.groups ++ f.groups)) d.exps f.exp (first_all d.groups f.groups n d.exps a.exps) (second_below d.groups f.groups n f.exp c.exp); groups = groups_and d.groups f.groups n a.groups c.groups }
   good s n (source.Do a es) =
       let h : GoodAll n (elaborate_operands s n es) = good_all s n es in
