@@ -1,5 +1,5 @@
 -- Calls of other actors are made alike.
-use Rattle.std.proofs.Common.{◌≡◌, ℕ, ◌+◌, ◌*◌, ◌≤◌, Bool, true, false, List, [], ◌∷◌, ◌++◌, length, Some, refl, sym, ap, ap₂, ◌∙◌, subst, arith}
+use Rattle.std.proofs.Common.{◌≡◌, ℕ, ◌+◌, ◌*◌, ◌≤◌, Bool, true, false, List, [], ◌∷◌, ◌++◌, length, Some, None, refl, sym, ap, ap₂, ◌∙◌, subst, arith}
 use Rattle.std.specs.Prelude.{max, nat_lt, cond}
 use Rattle.mo_types.specs.declared.datum.Datum.TheVariants as part
 use Rattle.mo_types.specs.declared.node.TypeId.{TypeId}
@@ -22,31 +22,34 @@ use Rattle.typed_tree.specs.declared.action.Action.TheVariants as action
 use Rattle.mo_meaning.specs.Configurations.{Surroundings}
 use Rattle.mo_meaning.specs.Turns.{most_calls, most_bytes, too_long, refused}
 use Rattle.mo_machine.specs.Values.{Value, Made, NoValue, load, shapes_list}
-use Rattle.mo_machine.specs.Acts.{Act, Traps}
+use Rattle.mo_machine.specs.Acts.{Act, Goes, Traps}
 use Rattle.mo_machine.specs.Configurations.{Configuration, live_on, live_state, moved, weighed, open_now, next_call, with_call}
 use Rattle.mo_machine.specs.Frames as machine
 use Rattle.mo_machine.specs.Frames.{Stack, Ready}
 use Rattle.mo_machine.specs.Jumps.{throw}
+use Rattle.mo_machine.specs.Moves.{Moved, Reduces}
+use Rattle.mo_machine.specs.Reductions.{reduces}
 use Rattle.mo_machine.specs.Measure.{left_on}
 use Rattle.mo_machine.specs.Messages.{message_cost}
 use Rattle.mo_machine.specs.Turns.{call_cost, message}
 use Rattle.elaboration.specs.Meeting.{Comes, There}
 use Rattle.elaboration_values.specs.Belonging.{Known, Belongs, EachBelongs}
 use Rattle.elaboration_values.proofs.Messages.{messages}
-use Rattle.elaboration_steps.specs.Stacks.{Labels, goal_at, Passing, Written, Arrived, StateBelongs, AtAction, AtInner, AtTurned, AtLeft, AtValue, Around}
-use Rattle.elaboration_steps.specs.Follows.{rank, owed, lacking, HandlerMeets, Doing, Acts}
+use Rattle.elaboration_steps.specs.Stacks.{Labels, goal_at, Passing, Written, Arrived, StateBelongs, AtAction, AtInner, AtTurned, AtLeft, AtValue, Later, LaterBy, WorldBelongs, Here, Around}
+use Rattle.elaboration_steps.specs.Follows.{rank, owed, HandlerMeets, Doing, Acts}
 use Rattle.elaboration_steps.specs.Running.{Runs}
 use Rattle.elaboration_steps.proofs.Depth.{as_deep}
 use Rattle.elaboration_steps.proofs.Paths.{stops, acts_behind}
 use Rattle.elaboration_steps.proofs.Rows.{row_goal}
 use Rattle.elaboration_steps.proofs.Running.{ways}
+use Rattle.elaboration_steps.proofs.Standing.{IsOutside, here_alone}
 use Rattle.elaboration_steps.proofs.Throwing.{throws}
 use Rattle.elaboration_runs.specs.Together.{Together, ActTurns}
 use Rattle.elaboration_runs.specs.Calling.{Surrounded, Calls, call_with, future, CallFollows, CallsFollow}
 use Rattle.elaboration_runs.proofs.Levels.{comes_level}
 use Rattle.elaboration_runs.proofs.Turning.{act_turns}
 
-no_passing : (t : Bool) (k : Stack) (f : machine.Focus) (more : Stack) → Passing t k f more → (a : Action) (vs : List Value) → f ≡ Ready a vs → ⊥
+pub no_passing : (t : Bool) (k : Stack) (f : machine.Focus) (more : Stack) → Passing t k f more → (a : Action) (vs : List Value) → f ≡ Ready a vs → ⊥
 no_passing t k f more (Written n env) a vs e = let z : machine.Eval _ env ≡ Ready a vs = e in cc
 no_passing t k f more (Arrived n) a vs e = let z : machine.Give _ ≡ Ready a vs = e in cc
 
@@ -106,23 +109,25 @@ module _ (program : Core) (context : Context) (nodes : ℕ) (held : ℕ) (known 
       }
   before l0 cf ck (AtInner m a us j g cj row r) = absurd (let z : false ≡ true = row_goal m (action.Send ps rs) row in cc)
   before l0 cf ck (AtTurned b l q e env v j c w vals cj g more x value pattern around) = absurd (no_passing true _ g more x (action.Send ps rs) (callee ∷ vs) refl)
+  before l0 cf ck (Later g j g2 more cg cj moves none falls owes deep state) = absurd (let z : Reduces ≡ Moved g2 more = moves in cc)
+  before l0 cf ck (LaterBy g j n g2 more cg cj moves goes falls owes deep state) = absurd (let z : reduces context.head None [] (Ready (action.Send ps rs) (callee ∷ vs)) l0 ≡ Goes (weighing n) [] g2 more = goes [] in cc)
   before l0 cf ck (AtLeft b l q e env v j cj g more x around) = absurd (no_passing false _ g more x (action.Send ps rs) (callee ∷ vs) refl)
 
 none_more : {X : Type 0} (xs : List X) → xs ≡ xs ++ []
 none_more [] = refl
 none_more (y ∷ xs) = ap (λ r. y ∷ r) (none_more xs)
 
-module _ (program : Core) (context : Context) (nodes : ℕ) (s : Surroundings) (same : Surrounded program context nodes s) (held nulls : ℕ) (known : List Known) (c : Configuration) (w d : ℕ) (prints : List Bytes) (world : World) (f : Focus) (k : List Frame)
-    (t : Together program context nodes held nulls known c w d prints world f k) (as_many : length world.requests ≡ length c.calls) (p name : Bytes) (ps rs : List TypeId) (vs : List Value)
+module _ (program : Core) (context : Context) (nodes : ℕ) (s : Surroundings) (same : Surrounded program context nodes s) (held : ℕ) (known : List Known) (c : Configuration) (w d : ℕ) (prints : List Bytes) (world : World) (f : Focus) (k : List Frame)
+    (t : Together program context nodes held known c w d prints world f k) (belongs : WorldBelongs program.groups known context.globals c.store world) (state : StateBelongs program context nodes world known held c.focus c.stack f k) (as_many : length world.requests ≡ length c.calls) (p name : Bytes) (ps rs : List TypeId) (vs : List Value)
     (stands : c.focus ≡ Ready (action.Send ps rs) (Made (Leaf (part.Method p name)) NoValue ∷ vs)) where
   abbrev B : Type 0
   B = Before program context nodes held known world p name ps rs vs c.stack f k
 
   at_call : B
-  at_call = before program context nodes held known world p name ps rs vs c.stack f k (subst (λ g. StateBelongs program context nodes world known held g c.stack f k) stands t.state)
+  at_call = before program context nodes held known world p name ps rs vs c.stack f k (subst (λ g. StateBelongs program context nodes world known held g c.stack f k) stands state)
 
   abbrev A : ℕ → Focus → List Frame → Act → Type 0
-  A = Acts program context nodes (rank c.focus c.stack) (held + lacking c.focus) known world c.store c.stack
+  A = Acts program context nodes (rank c.focus c.stack) held known world c.store c.stack
 
   abbrev function : SharedFunction
   function = record { actor = p; method = name }
@@ -163,28 +168,28 @@ module _ (program : Core) (context : Context) (nodes : ℕ) (s : Surroundings) (
   rank_is = subst (λ g. 4 * left_on c.stack + length c.stack + 1 ≤ rank g c.stack) (sym stands) (omega arith)
 
   refuses_follow : (r : B) → nat_lt (open_now s c) most_calls ≡ false → ((u : core_value.Value) → Belongs known (load refused) u → HandlerMeets c.stack u)
-      → ActTurns program context nodes (rank c.focus c.stack) (nulls + lacking c.focus) known w d prints world f k c (throw c.store (weighing 1) (load refused) c.stack)
+      → ActTurns program context nodes (rank c.focus c.stack) known w d prints world f k c (throw c.store (weighing 1) (load refused) c.stack)
   refuses_follow r room meets =
-      act_turns program context nodes held nulls known c w d prints world f k t (throw c.store (weighing 1) (load refused) c.stack)
-      (acts_behind program context nodes (rank c.focus c.stack) (held + lacking c.focus) known world c.store c.stack r.weight 0 f k r.f' r.ck' (throw c.store (weighing 1) (load refused) c.stack) r.path
-      (throws program context nodes (rank c.focus c.stack) (held + lacking c.focus) known world c.store c.stack t.worlds (load refused) refusal (refl, tt) (0 + r.weight) r.f' r.ck' r.l r.less c.stack r.others r.around (meets refusal (refl, tt))
+      act_turns program context nodes held known c w d prints world f k t (throw c.store (weighing 1) (load refused) c.stack)
+      (acts_behind program context nodes (rank c.focus c.stack) held known world c.store c.stack r.weight 0 f k r.f' r.ck' (throw c.store (weighing 1) (load refused) c.stack) r.path
+      (throws program context nodes (rank c.focus c.stack) held known world c.store c.stack belongs (load refused) refusal (refl, tt) (0 + r.weight) r.f' r.ck' r.l r.less c.stack r.others r.around (meets refusal (refl, tt))
       (with_room r false room) (let z : r.weight + r.less ≤ held = r.paid in omega (arith, z)) refl rank_is r.level))
       (deep r)
 
   traps_follow : (r : B) → nat_lt (open_now s c) most_calls ≡ true → (bytes : Bytes) → message s ps vs ≡ Some bytes → nat_lt most_bytes (length bytes) ≡ true
-      → ActTurns program context nodes (rank c.focus c.stack) (nulls + lacking c.focus) known w d prints world f k c (Traps (message_cost vs bytes) too_long)
+      → ActTurns program context nodes (rank c.focus c.stack) known w d prints world f k c (Traps (message_cost vs bytes) too_long)
   traps_follow r room bytes e long =
       let size : sizes (shapes_list vs) ≡ sizes r.ws = (messages known (shapes_list vs) r.ws r.arguments).1 in
       let most : most_levels (shapes_list vs) ≡ most_levels r.ws = (messages known (shapes_list vs) r.ws r.arguments).2 in
-      act_turns program context nodes held nulls known c w d prints world f k t (Traps (message_cost vs bytes) too_long)
-      (acts_behind program context nodes (rank c.focus c.stack) (held + lacking c.focus) known world c.store c.stack r.weight 0 f k r.f' r.ck' (Traps (message_cost vs bytes) too_long) r.path
-      (stops program context nodes (0 + r.weight) (2 * (message_cost vs bytes).weight + (held + lacking c.focus)) (message_cost vs bytes).levels (core_calls.message_cost r.ws bytes) world r.f' r.ck' (execution.Traps too_long) (with_bytes r bytes true room e long)
+      act_turns program context nodes held known c w d prints world f k t (Traps (message_cost vs bytes) too_long)
+      (acts_behind program context nodes (rank c.focus c.stack) held known world c.store c.stack r.weight 0 f k r.f' r.ck' (Traps (message_cost vs bytes) too_long) r.path
+      (stops program context nodes (0 + r.weight) (2 * (message_cost vs bytes).weight + held) (message_cost vs bytes).levels (core_calls.message_cost r.ws bytes) world r.f' r.ck' (execution.Traps too_long) (with_bytes r bytes true room e long)
       (let z : r.weight + r.less ≤ held = r.paid in omega (arith, z, size)) (omega (arith, most))))
       (deep r)
 
   sends_follow : (r : B) → nat_lt (open_now s c) most_calls ≡ true → (bytes : Bytes) → message s ps vs ≡ Some bytes → nat_lt most_bytes (length bytes) ≡ false
-      → Calls program context nodes s nulls known c w d prints world f k (call_with program context nodes s nulls known c w d prints world f k p name rs bytes)
-      (moved (weighing 1) c.store (machine.Give (future program context nodes s nulls known c w d prints world f k)) c.stack (with_call (call_with program context nodes s nulls known c w d prints world f k p name rs bytes) (weighed (call_cost p name vs bytes) c)))
+      → Calls program context nodes s known c w d prints world f k (call_with program context nodes s known c w d prints world f k p name rs bytes)
+      (moved (weighing 1) c.store (machine.Give (future program context nodes s known c w d prints world f k)) c.stack (with_call (call_with program context nodes s known c w d prints world f k p name rs bytes) (weighed (call_cost p name vs bytes) c)))
   sends_follow r room bytes e short =
       let size : sizes (shapes_list vs) ≡ sizes r.ws = (messages known (shapes_list vs) r.ws r.arguments).1 in
       let most : most_levels (shapes_list vs) ≡ most_levels r.ws = (messages known (shapes_list vs) r.ws r.arguments).2 in
@@ -211,7 +216,7 @@ module _ (program : Core) (context : Context) (nodes : ℕ) (s : Surroundings) (
           light =
               let a : u.weight' ≤ w + (r.weight + (1 + (length p + length name + (sizes r.ws + length bytes))) + 0) = u.heavy in
               let b : r.weight + r.less ≤ held = r.paid in
-              let x : w + held ≤ 2 * c.weight + owed c.stack + nulls = t.light in
+              let x : w + held ≤ 2 * c.weight + owed c.stack = t.light in
               omega (arith, a, b, x, size);
           shallow =
               let a : u.depth' ≤ max d (max (16 + nodes + depth_of k + 16 * most_levels r.ws) (16 + nodes + depth_of r.others)) = u.within in
@@ -221,13 +226,15 @@ module _ (program : Core) (context : Context) (nodes : ℕ) (s : Surroundings) (
               omega (arith, a, b, x, y, most);
           within = omega arith;
           first = let x : 16 + nodes ≤ c.depth = t.first in omega (arith, x);
-          worlds = record { cells = t.worlds.cells; groups = t.worlds.groups };
-          state = AtValue true r.l (future program context nodes s nulls known c w d prints world f k) (core_value.future (worlds.next_call context world)) c.stack r.others (ap (λ n. Future n) (sym numbers), tt) r.around;
+          stands = Here c.store (machine.Give (future program context nodes s known c w d prints world f k)) c.stack (Give (core_value.future (worlds.next_call context world))) r.others (record { cells = belongs.cells; groups = belongs.groups }) (AtValue true r.l (future program context nodes s known c w d prints world f k) (core_value.future (worlds.next_call context world)) c.stack r.others (ap (λ n. Future n) (sym numbers), tt) r.around);
         };
       }
 
-  pub call_follows : CallFollows program context nodes s nulls known c w d prints world f k p name ps rs vs
+  pub call_follows : CallFollows program context nodes s known c w d prints world f k p name ps rs vs
   call_follows = record { refuses = refuses_follow at_call; traps = traps_follow at_call; calls = sends_follow at_call }
 
 pub calls : (program : Core) (context : Context) (nodes : ℕ) (s : Surroundings) → CallsFollow program context nodes s
-calls program context nodes s same held nulls known c w d prints world f k t as_many p name ps rs vs stands = call_follows program context nodes s same held nulls known c w d prints world f k t as_many p name ps rs vs stands
+calls program context nodes s same held known c w d prints world f k t as_many p name ps rs vs stands =
+    let h : WorldBelongs program.groups known context.globals c.store world × StateBelongs program context nodes world known held c.focus c.stack f k =
+    here_alone program context nodes world known held c.store c.focus c.stack f k t.stands (subst (λ g. IsOutside g) (sym stands) tt) in
+    call_follows program context nodes s same held known c w d prints world f k t (h.0) (h.1) as_many p name ps rs vs stands

@@ -15,7 +15,8 @@ use Rattle.mo_machine.specs.Moves.{Move, Moved, Ends, Reduces, found, looks, pas
 use Rattle.elaboration.specs.Meeting as meeting
 use Rattle.elaboration.specs.Meeting.{Comes, There}
 use Rattle.elaboration_values.specs.Belonging.{Known}
-use Rattle.elaboration_steps.specs.Stacks.{StateBelongs, joinings, Passing, Written, Arrived, AtCode, AtWhile, AtRepeat, AtAction, AtValue, AtEnd, AtBody, AtTurned, AtGoing, AtLeft, AtCallee, AtMaking, AtMade, AtApplied, AtInner, AtBack, AtFunction}
+use Rattle.mo_machine.specs.Acts.{Store}
+use Rattle.elaboration_steps.specs.Stacks.{FillingBelongs, Soon, AtNew, AtCells, AtRead, AtHeld, Standing, Here, Filling, StateBelongs, joinings, Passing, Written, Arrived, AtCode, AtWhile, AtRepeat, AtAction, AtValue, AtEnd, AtBody, AtTurned, AtGoing, AtLeft, AtCallee, AtMaking, AtMade, AtApplied, AtInner, AtBack, AtFunction, Later, LaterBy, AtRaising, AtWriting, AtWritten}
 use Rattle.elaboration_steps.proofs.Depth.{as_deep}
 use Rattle.elaboration_steps.proofs.Levels.{joins_level}
 
@@ -114,7 +115,17 @@ module _ (program : Core) (context : Context) (nodes : ℕ) (world : World) (kno
   state_deep f k cf ck (AtInner m a vs j g cj row r) h =
       let z : live_on j ≡ Deep r.others = as_deep program.groups known context.globals nodes r.b r.l held j r.others r.around in let x : depth_of cj ≡ depth_of r.others = r.level in omega (arith, z, x)
   state_deep f k cf ck (AtBack b l v w j cj value around) h = let z : live_on j ≡ Deep cj = as_deep program.groups known context.globals nodes b l held j cj around in omega (arith, z)
-  state_deep f k cf ck (AtFunction b l m a n j vals cj is there around) h = let z : live_on j ≡ Deep cj = as_deep program.groups known context.globals nodes b l held j cj around in omega (arith, z)
+  state_deep f k cf ck (AtFunction m vs j g cj r) h =
+      let z : live_on j ≡ Deep r.others = as_deep program.groups known context.globals nodes r.b r.l held j r.others r.around in
+      let x : depth_of cj ≡ depth_of r.others = comes_level program context nodes world r.weight g cj _ r.others r.path in
+      omega (arith, z, x)
+  state_deep f k cf ck (Later g j g2 more cg cj moves none falls owes deep state) h = deep
+  state_deep f k cf ck (LaterBy g j n g2 more cg cj moves goes falls owes deep state) h = deep
+  state_deep f k cf ck (AtRaising b l less w i c place cell j others g cj value eq depth fits around) h =
+      let z : live_on j ≡ Deep others = as_deep program.groups known context.globals nodes b l less j others around in omega (arith, z, depth)
+  state_deep f k cf ck (AtWriting b l less w c place v cell u j others g cj value new eq depth fits around) h =
+      let z : live_on j ≡ Deep others = as_deep program.groups known context.globals nodes b l less j others around in omega (arith, z, depth)
+  state_deep f k cf ck (AtWritten b l c place j others around) h = let z : live_on j ≡ Deep others = as_deep program.groups known context.globals nodes b l held j others around in omega (arith, z)
 
   -- also at the end
   end_or : (f : machine.Focus) (k : Stack) (cf : core_machine.Focus) (ck : List core_machine.Frame) (state : StateBelongs program context nodes world known held f k cf ck) → (NotEnd f k cf ck state) ⊎ (depth_of ck ≡ 0)
@@ -127,3 +138,17 @@ module _ (program : Core) (context : Context) (nodes : ℕ) (world : World) (kno
       by : (NotEnd f k cf ck state) ⊎ (depth_of ck ≡ 0) → Deep ck ≤ n
       by (inl h) = let z : Deep ck ≤ live_state f k = state_deep f k cf ck state h in omega (arith, z, a)
       by (inr e) = omega (arith, e, b)
+
+  -- where elements of an array are made
+  pub filling_deep : (front fresh : Store) (f : machine.Focus) (k : Stack) (cf : core_machine.Focus) (ck : List core_machine.Frame) → FillingBelongs program context nodes world known held front fresh f k cf ck → Deep ck ≤ live_state f k
+  filling_deep front fresh f k cf ck (Soon new g j g2 more cg cj moves none falls owes deep filling) = deep
+  filling_deep front fresh f k cf ck (AtNew new b l e es v vs us j others g cj making values eq depth around) =
+      let z : live_on j ≡ Deep others = as_deep program.groups known context.globals nodes b l held j others around in omega (arith, z, depth)
+  filling_deep front fresh f k cf ck (AtCells new b l us j others g cj values eq depth around) = let z : live_on j ≡ Deep others = as_deep program.groups known context.globals nodes b l held j others around in omega (arith, z, depth)
+  filling_deep front fresh f k cf ck (AtRead b l e es c cs done before rest ws j others g cj making cells values held_each eq depth around) =
+      let z : live_on j ≡ Deep others = as_deep program.groups known context.globals nodes b l held j others around in omega (arith, z, depth)
+  filling_deep front fresh f k cf ck (AtHeld b l done us j others g cj values eq depth around) = let z : live_on j ≡ Deep others = as_deep program.groups known context.globals nodes b l held j others around in omega (arith, z, depth)
+
+  pub stand_within : (store : Store) (f : machine.Focus) (k : Stack) (cf : core_machine.Focus) (ck : List core_machine.Frame) (n : ℕ) → Standing program context nodes world known held store f k cf ck → live_state f k ≤ n → 16 + nodes ≤ n → Deep ck ≤ n
+  stand_within store f k cf ck n (Here st g j cg cj worlds state) a b = deep_within f k cf ck n state a b
+  stand_within store f k cf ck n (Filling front fresh g j cg cj worlds filling) a b = let z : Deep ck ≤ live_state f k = filling_deep front fresh f k cf ck filling in omega (arith, z, a)

@@ -8,32 +8,31 @@ use Rattle.core_ir.specs.Executions.{End, after_step, deep_with}
 use Rattle.core_ir.specs.Executions as execution
 use Rattle.core_ir.specs.Expressions.{Core}
 use Rattle.core_ir.specs.CoreMachine.{Frame, Focus, Waiting, at, depth_of, core_machine}
-use Rattle.mo_machine.specs.Acts.{Act, Goes, Prints, Asks, Awaits, Leaves, Throws, Traps, Stuck}
+use Rattle.mo_machine.specs.Acts.{Store, Act, Goes, Prints, Asks, Awaits, Leaves, Throws, Traps, Stuck}
 use Rattle.mo_machine.specs.Configurations.{Configuration, live_state, moved, standing, weighed}
 use Rattle.mo_machine.specs.Frames as machine
 use Rattle.mo_machine.specs.Frames.{Stack}
 use Rattle.mo_machine.specs.Moves.{Move, Moved, Ends, Reduces, move}
 use Rattle.mo_machine.specs.Reductions.{reduces}
 use Rattle.elaboration_values.specs.Belonging.{Known}
-use Rattle.elaboration_steps.specs.Stacks.{StateBelongs, AtEnd}
-use Rattle.elaboration_steps.specs.Follows.{rank, owed, lacking, Follows, Stops, MoveFollows, Acts}
+use Rattle.elaboration_steps.specs.Stacks.{Standing, Here, Filling, AtEnd}
+use Rattle.elaboration_steps.specs.Follows.{rank, owed, Follows, Stops, MoveFollows, Acts}
 use Rattle.elaboration_steps.specs.Running.{least, Runs, Finishes}
-use Rattle.elaboration_steps.proofs.Moving.{moves_follow}
-use Rattle.elaboration_steps.proofs.Reducing.{reduces_follow}
 use Rattle.elaboration_steps.proofs.Running.{ways, ends}
+use Rattle.elaboration_steps.proofs.Standing.{stands_move, stands_reduce}
 use Rattle.elaboration_runs.specs.Together.{Together, GoesOn, IsOver, MoveTurns, ActTurns, TurnsFollow}
-use Rattle.elaboration_runs.proofs.Levels.{KeepsLive, move_keeps, NotEnd, state_deep, deep_within}
+use Rattle.elaboration_runs.proofs.Levels.{KeepsLive, move_keeps, state_deep, filling_deep, stand_within}
 
 not_moved : (b : Bool) (n : ℕ) → least b ≤ n → n ≡ 0 → b ≡ false
 not_moved false n h e = refl
 not_moved true n h e = absurd (let z : 1 ≤ n = h in let y : 1 ≤ 0 = omega (arith, z, e) in (let x : ⊥ = omega (arith, y) in x))
 
-module _ (program : Core) (context : Context) (nodes : ℕ) (held nulls : ℕ) (known : List Known) (c : Configuration) (w d : ℕ) (prints : List Bytes) (world : World) (f : Focus) (k : List Frame) (t : Together program context nodes held nulls known c w d prints world f k) where
-  -- from what a step is followed by to where the run is then; lack is what the step lacks, and x its weight
-  goes_on : (x lack levels : ℕ) (out : List Bytes) (c' : Configuration) → Follows program context nodes (rank c.focus c.stack) (owed c.stack) (2 * x + (held + lack)) levels out known world f k c'.store c'.focus c'.stack
+module _ (program : Core) (context : Context) (nodes : ℕ) (held : ℕ) (known : List Known) (c : Configuration) (w d : ℕ) (prints : List Bytes) (world : World) (f : Focus) (k : List Frame) (t : Together program context nodes held known c w d prints world f k) where
+  -- from what a step is followed by to where the run is then; x is its weight
+  goes_on : (x levels : ℕ) (out : List Bytes) (c' : Configuration) → Follows program context nodes (rank c.focus c.stack) (owed c.stack) (2 * x + held) levels out known world f k c'.store c'.focus c'.stack
       → c'.weight ≡ c.weight + x → c'.prints ≡ c.prints ++ out → 16 + nodes + depth_of k + 16 * levels ≤ c'.depth → c.depth ≤ c'.depth → live_state c'.focus c'.stack ≤ c'.depth
-      → GoesOn program context nodes (rank c.focus c.stack) (nulls + lack) known w d prints world f k c'
-  goes_on x lack levels out c' r weight printed level deeper live =
+      → GoesOn program context nodes (rank c.focus c.stack) known w d prints world f k c'
+  goes_on x levels out c' r weight printed level deeper live =
       let u : Runs program context nodes (least r.moved) r.weight levels out w d prints world f k r.world' r.cf' r.ck' = ways program context nodes r.moved r.weight levels out world f k r.world' r.cf' r.ck' r.path w d prints in
       let top : 16 + nodes ≤ c'.depth = (let z : 16 + nodes ≤ c.depth = t.first in omega (arith, z, deeper)) in
       record {
@@ -54,26 +53,25 @@ module _ (program : Core) (context : Context) (nodes : ℕ) (held nulls : ℕ) (
           prints_are = u.shown ∙ (ap (λ z. z ++ out) t.prints_are ∙ sym printed);
           light =
               let a : u.weight' ≤ w + r.weight = u.heavy in
-              let b : owed c.stack + r.weight + r.held' ≤ 2 * x + (held + lack) + owed c'.stack = r.pays in
-              let e : w + held ≤ 2 * c.weight + owed c.stack + nulls = t.light in
+              let b : owed c.stack + r.weight + r.held' ≤ 2 * x + held + owed c'.stack = r.pays in
+              let e : w + held ≤ 2 * c.weight + owed c.stack = t.light in
               omega (arith, a, b, e, weight);
           shallow =
               let a : u.depth' ≤ max d (max (16 + nodes + depth_of k + 16 * levels) (16 + nodes + depth_of r.ck')) = u.within in
-              let b : 16 + nodes + depth_of r.ck' ≤ c'.depth = deep_within program context nodes r.world' r.known' r.held' c'.focus c'.stack r.cf' r.ck' c'.depth r.state live top in
+              let b : 16 + nodes + depth_of r.ck' ≤ c'.depth = stand_within program context nodes r.world' r.known' r.held' c'.store c'.focus c'.stack r.cf' r.ck' c'.depth r.stands live top in
               let e : d ≤ c.depth = t.shallow in
               omega (arith, a, b, e, level, deeper);
           within = live;
           first = top;
-          worlds = r.worlds;
-          state = r.state;
+          stands = r.stands;
         };
       }
 
   -- it stops
-  over : (x lack levels : ℕ) (c' : Configuration) (end : End Waiting) → Stops program context nodes 0 (2 * x + (held + lack)) levels world f k end → c'.weight ≡ c.weight + x → c'.prints ≡ c.prints → c'.stack ≡ c.stack
-      → IsOver program context nodes (rank c.focus c.stack) (nulls + lack) known w d prints world f k c' end
-  over x lack levels c' end r weight printed stack =
-      let u : Finishes program context nodes (2 * x + (held + lack)) levels w d prints world f k end = ends program context nodes 0 (2 * x + (held + lack)) levels world f k end r w d prints (2 * x + (held + lack)) (omega arith) in
+  over : (x levels : ℕ) (c' : Configuration) (end : End Waiting) → Stops program context nodes 0 (2 * x + held) levels world f k end → c'.weight ≡ c.weight + x → c'.prints ≡ c.prints → c'.stack ≡ c.stack
+      → IsOver program context nodes (rank c.focus c.stack) known w d prints world f k c' end
+  over x levels c' end r weight printed stack =
+      let u : Finishes program context nodes (2 * x + held) levels w d prints world f k end = ends program context nodes 0 (2 * x + held) levels world f k end r w d prints (2 * x + held) (omega arith) in
       record {
         steps = u.steps;
         weight' = u.weight';
@@ -83,8 +81,8 @@ module _ (program : Core) (context : Context) (nodes : ℕ) (held nulls : ℕ) (
         by = u.by;
         prints_are = u.shown ∙ (t.prints_are ∙ sym printed);
         light =
-            let a : u.weight' ≤ w + (2 * x + (held + lack)) = u.heavy in
-            let e : w + held ≤ 2 * c.weight + owed c.stack + nulls = t.light in
+            let a : u.weight' ≤ w + (2 * x + held) = u.heavy in
+            let e : w + held ≤ 2 * c.weight + owed c.stack = t.light in
             let o : owed c'.stack ≡ owed c.stack = ap owed stack in
             omega (arith, a, e, weight, o);
       }
@@ -94,13 +92,12 @@ module _ (program : Core) (context : Context) (nodes : ℕ) (held nulls : ℕ) (
   no_more (y ∷ xs) = ap (λ r. y ∷ r) (no_more xs)
 
   move_turns : (m : Move) → MoveFollows program context nodes (rank c.focus c.stack) held known world c.store c.stack f k m → KeepsLive m (live_state c.focus c.stack)
-      → MoveTurns program context nodes (rank c.focus c.stack) nulls known w d prints world f k c m
+      → MoveTurns program context nodes (rank c.focus c.stack) known w d prints world f k c m
   move_turns (Moved g l) r same =
-      subst (λ n. GoesOn program context nodes (rank c.focus c.stack) n known w d prints world f k (standing g l c)) (let z : nulls + 0 ≡ nulls = omega arith in z)
-      (goes_on 0 0 0 [] (standing g l c) (subst (λ n. Follows program context nodes (rank c.focus c.stack) (owed c.stack) n 0 [] known world f k c.store g l) (let z : held ≡ 2 * 0 + (held + 0) = omega arith in z) r)
+      goes_on 0 0 [] (standing g l c) (subst (λ n. Follows program context nodes (rank c.focus c.stack) (owed c.stack) n 0 [] known world f k c.store g l) (let z : held ≡ 2 * 0 + held = omega arith in z) r)
       (let z : c.weight ≡ c.weight + 0 = omega arith in z) (no_more c.prints)
-      (let z : 16 + nodes + depth_of k ≤ c.depth = deep_within program context nodes world known held c.focus c.stack f k c.depth t.state t.within t.first in omega (arith, z)) (omega arith)
-      (let z : live_state g l ≡ live_state c.focus c.stack = same in let y : live_state c.focus c.stack ≤ c.depth = t.within in omega (arith, z, y)))
+      (let z : 16 + nodes + depth_of k ≤ c.depth = stand_within program context nodes world known held c.store c.focus c.stack f k c.depth t.stands t.within t.first in omega (arith, z)) (omega arith)
+      (let z : live_state g l ≡ live_state c.focus c.stack = same in let y : live_state c.focus c.stack ≤ c.depth = t.within in omega (arith, z, y))
   move_turns (Ends v) r same = (
     r.0,
     r.1,
@@ -113,34 +110,36 @@ module _ (program : Core) (context : Context) (nodes : ℕ) (held nulls : ℕ) (
       by = λ more. ap (λ n. execution.run (core_machine program) context n w d prints world (at program context nodes f k)) (let z : 1 + more ≡ suc more = omega arith in z)
           ∙ ap (after_step (execution.run (core_machine program) context more) (16 + nodes + depth_of k) w d prints) (r.2);
       prints_are = sym (no_more prints) ∙ t.prints_are;
-      light = let e : w + held ≤ 2 * c.weight + owed c.stack + nulls = t.light in let p : 1 ≤ held = r.3 in omega (arith, e, p);
+      light = let e : w + held ≤ 2 * c.weight + owed c.stack = t.light in let p : 1 ≤ held = r.3 in omega (arith, e, p);
     },
   )
   move_turns Reduces r same = tt
 
-  pub act_turns : (a : Act) → Acts program context nodes (rank c.focus c.stack) (held + lacking c.focus) known world c.store c.stack 0 f k a → (16 + nodes + depth_of k ≤ live_state c.focus c.stack)
-      → ActTurns program context nodes (rank c.focus c.stack) (nulls + lacking c.focus) known w d prints world f k c a
+  pub act_turns : (a : Act) → Acts program context nodes (rank c.focus c.stack) held known world c.store c.stack 0 f k a → (16 + nodes + depth_of k ≤ live_state c.focus c.stack)
+      → ActTurns program context nodes (rank c.focus c.stack) known w d prints world f k c a
   act_turns (Goes cost store g l) r deep =
-      goes_on cost.weight (lacking c.focus) cost.levels [] (moved cost store g l c) (subst (λ n. Follows program context nodes (rank c.focus c.stack) n (2 * cost.weight + (held + lacking c.focus)) cost.levels [] known world f k store g l) (let z : 0 + owed c.stack ≡ owed c.stack = omega arith in z) r)
+      goes_on cost.weight cost.levels [] (moved cost store g l c) (subst (λ n. Follows program context nodes (rank c.focus c.stack) n (2 * cost.weight + held) cost.levels [] known world f k store g l) (let z : 0 + owed c.stack ≡ owed c.stack = omega arith in z) r)
       refl (no_more c.prints) (omega (arith, deep)) (omega arith) (omega arith)
   act_turns (Prints cost text g l) r deep =
-      goes_on cost.weight (lacking c.focus) cost.levels (text ∷ []) (record (moved cost c.store g l c) { prints = c.prints ++ text ∷ [] }) (subst (λ n. Follows program context nodes (rank c.focus c.stack) n (2 * cost.weight + (held + lacking c.focus)) cost.levels (text ∷ []) known world f k c.store g l) (let z : 0 + owed c.stack ≡ owed c.stack = omega arith in z) r)
+      goes_on cost.weight cost.levels (text ∷ []) (record (moved cost c.store g l c) { prints = c.prints ++ text ∷ [] }) (subst (λ n. Follows program context nodes (rank c.focus c.stack) n (2 * cost.weight + held) cost.levels (text ∷ []) known world f k c.store g l) (let z : 0 + owed c.stack ≡ owed c.stack = omega arith in z) r)
       refl refl (omega (arith, deep)) (omega arith) (omega arith)
-  act_turns (Traps cost text) r deep = over cost.weight (lacking c.focus) cost.levels (weighed cost c) (execution.Traps text) r refl refl refl
-  act_turns (Throws cost error) r deep = (r.0, r.1, over cost.weight (lacking c.focus) cost.levels (weighed cost c) (execution.Rejects (r.0)) (r.2) refl refl refl)
+  act_turns (Traps cost text) r deep = over cost.weight cost.levels (weighed cost c) (execution.Traps text) r refl refl refl
+  act_turns (Throws cost error) r deep = (r.0, r.1, over cost.weight cost.levels (weighed cost c) (execution.Rejects (r.0)) (r.2) refl refl refl)
   act_turns (Asks request) r deep = tt
   act_turns (Awaits n call) r deep = tt
   act_turns (Leaves labels v) r deep = tt
   act_turns Stuck r deep = tt
 
 pub turns : (program : Core) (context : Context) (nodes : ℕ) → TurnsFollow program context nodes
-turns program context nodes held nulls known c w d prints world f k t plain suits = (
-  move_turns program context nodes held nulls known c w d prints world f k t (move c.focus c.stack) (moves_follow program context nodes held known world c.store t.worlds c.focus c.stack f k t.state plain) (move_keeps c.focus c.stack),
-  acts_on c.focus c.stack f k t.state (λ h. act_turns program context nodes held nulls known c w d prints world f k t (reduces context.head None c.store c.focus c.stack) (reduces_follow program context nodes held known world c.store t.worlds c.focus c.stack f k t.state suits) (state_deep program context nodes world known held c.focus c.stack f k t.state h)),
+turns program context nodes held known c w d prints world f k t suits = (
+  move_turns program context nodes held known c w d prints world f k t (move c.focus c.stack) (stands_move program context nodes held known world c.store c.focus c.stack f k t.stands) (move_keeps c.focus c.stack),
+  acts_on c.store c.focus c.stack f k t.stands (λ h. act_turns program context nodes held known c w d prints world f k t (reduces context.head None c.store c.focus c.stack) (stands_reduce program context nodes held known world c.store c.focus c.stack f k t.stands suits) h),
 )
   where
-    acts_on : (g : machine.Focus) (l : Stack) (cf : Focus) (ck : List Frame) (state : StateBelongs program context nodes world known held g l cf ck)
-        → (NotEnd program context nodes world known held g l cf ck state → ActTurns program context nodes (rank c.focus c.stack) (nulls + lacking c.focus) known w d prints world f k c (reduces context.head None c.store g l))
-        → ActTurns program context nodes (rank c.focus c.stack) (nulls + lacking c.focus) known w d prints world f k c (reduces context.head None c.store g l)
-    acts_on g l cf ck (AtEnd v u h cj value eq paid flat) go = tt
-    acts_on g l cf ck state go = go tt
+    -- the last value is taken by no reduction
+    acts_on : (store : Store) (g : machine.Focus) (l : Stack) (cf : Focus) (ck : List Frame) → Standing program context nodes world known held store g l cf ck
+        → (16 + nodes + depth_of ck ≤ live_state g l → ActTurns program context nodes (rank c.focus c.stack) known w d prints world f k c (reduces context.head None store g l))
+        → ActTurns program context nodes (rank c.focus c.stack) known w d prints world f k c (reduces context.head None store g l)
+    acts_on store g l cf ck (Here st gg ll ccf cck worlds (AtEnd v u h cj value eq paid flat)) go = tt
+    acts_on store g l cf ck (Here st gg ll ccf cck worlds state) go = go (state_deep program context nodes world known held g l cf ck state tt)
+    acts_on store g l cf ck (Filling front fresh gg ll ccf cck worlds filling) go = go (filling_deep program context nodes world known held front fresh g l cf ck filling)

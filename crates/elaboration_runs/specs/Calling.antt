@@ -23,7 +23,7 @@ use Rattle.mo_machine.specs.Jumps.{throw}
 use Rattle.mo_machine.specs.Messages.{message_cost}
 use Rattle.mo_machine.specs.Turns.{call_cost, message}
 use Rattle.elaboration_values.specs.Belonging.{Known, Belongs, EachBelongs}
-use Rattle.elaboration_steps.specs.Follows.{rank, lacking, HandlerMeets}
+use Rattle.elaboration_steps.specs.Follows.{rank, HandlerMeets}
 use Rattle.elaboration_runs.specs.Together.{Together, IsOver, ActTurns}
 
 -- the same call
@@ -41,7 +41,7 @@ module _ (program : Core) (context : Context) (nodes : ℕ) (s : Surroundings) w
     pub next : next_number context.table ≡ next_number s.table
     pub bytes : (known : List Known) (ts : List TypeId) (vs : List Value) (ws : List core_value.Value) → EachBelongs known vs ws → context.message ts ws ≡ message s ts vs
 
-  module _ (nulls : ℕ) (known : List Known) (c : Configuration) (w d : ℕ) (prints : List Bytes) (world : World) (f : Focus) (k : List Frame) where
+  module _ (known : List Known) (c : Configuration) (w d : ℕ) (prints : List Bytes) (world : World) (f : Focus) (k : List Frame) where
     -- the run makes it, and stands where the execution does behind it
     pub record Calls (call : Outgoing) (c' : Configuration) : Type 0 where
       pub steps : ℕ
@@ -57,7 +57,7 @@ module _ (program : Core) (context : Context) (nodes : ℕ) (s : Surroundings) w
       pub some : 1 ≤ steps
       pub same : SameCall call request
       pub requests : world'.requests ≡ world.requests ++ request ∷ []
-      pub together : Together program context nodes held' nulls known c' weight' depth' prints' world' f' k'
+      pub together : Together program context nodes held' known c' weight' depth' prints' world' f' k'
 
     abbrev pub call_with : Bytes → Bytes → List TypeId → Bytes → Outgoing
     call_with p name rs bytes = record { callee = p; method = name; argument = bytes; results = rs; resumes = None }
@@ -70,14 +70,14 @@ module _ (program : Core) (context : Context) (nodes : ℕ) (s : Surroundings) w
     pub record CallFollows (p name : Bytes) (ps rs : List TypeId) (vs : List Value) : Type 0 where
       -- it is not let through
       pub refuses : nat_lt (open_now s c) most_calls ≡ false → ((u : core_value.Value) → Belongs known (load refused) u → HandlerMeets c.stack u)
-          → ActTurns program context nodes (rank c.focus c.stack) (nulls + lacking c.focus) known w d prints world f k c (throw c.store (weighing 1) (load refused) c.stack)
+          → ActTurns program context nodes (rank c.focus c.stack) known w d prints world f k c (throw c.store (weighing 1) (load refused) c.stack)
       pub traps : nat_lt (open_now s c) most_calls ≡ true → (bytes : Bytes) → message s ps vs ≡ Some bytes → nat_lt most_bytes (length bytes) ≡ true
-          → IsOver program context nodes (rank c.focus c.stack) (nulls + lacking c.focus) known w d prints world f k (weighed (message_cost vs bytes) c) (execution.Traps too_long)
+          → IsOver program context nodes (rank c.focus c.stack) known w d prints world f k (weighed (message_cost vs bytes) c) (execution.Traps too_long)
       pub calls : nat_lt (open_now s c) most_calls ≡ true → (bytes : Bytes) → message s ps vs ≡ Some bytes → nat_lt most_bytes (length bytes) ≡ false
           → Calls (call_with p name rs bytes) (moved (weighing 1) c.store (machine.Give future) c.stack (with_call (call_with p name rs bytes) (weighed (call_cost p name vs bytes) c)))
 
   abbrev pub CallsFollow : Type 0
   CallsFollow =
-      Surrounded → (held nulls : ℕ) (known : List Known) (c : Configuration) (w d : ℕ) (prints : List Bytes) (world : World) (f : Focus) (k : List Frame) → Together program context nodes held nulls known c w d prints world f k
+      Surrounded → (held : ℕ) (known : List Known) (c : Configuration) (w d : ℕ) (prints : List Bytes) (world : World) (f : Focus) (k : List Frame) → Together program context nodes held known c w d prints world f k
       → length world.requests ≡ length c.calls → (p name : Bytes) (ps rs : List TypeId) (vs : List Value) → c.focus ≡ Ready (action.Send ps rs) (Made (Leaf (part.Method p name)) NoValue ∷ vs)
-      → CallFollows nulls known c w d prints world f k p name ps rs vs
+      → CallFollows known c w d prints world f k p name ps rs vs

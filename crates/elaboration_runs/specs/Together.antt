@@ -13,21 +13,19 @@ use Rattle.mo_machine.specs.Moves.{Move, Moved, Reduces, move}
 use Rattle.mo_machine.specs.Moves as moves
 use Rattle.mo_machine.specs.Reductions.{reduces}
 use Rattle.elaboration_values.specs.Belonging.{Known, Belongs}
-use Rattle.elaboration_steps.specs.Stacks.{WorldBelongs, StateBelongs}
-use Rattle.elaboration_steps.specs.Follows.{rank, owed, lacking, IsPlain, Suits}
+use Rattle.elaboration_steps.specs.Stacks.{Standing}
+use Rattle.elaboration_steps.specs.Follows.{rank, owed, Suits}
 
 module _ (program : Core) (context : Context) (nodes : ℕ) where
-  -- so many `!` met null on the way
-  pub record Together (held nulls : ℕ) (known : List Known) (c : Configuration) (w d : ℕ) (prints : List Bytes) (world : World) (f : Focus) (k : List Frame) : Type 0 where
+  pub record Together (held : ℕ) (known : List Known) (c : Configuration) (w d : ℕ) (prints : List Bytes) (world : World) (f : Focus) (k : List Frame) : Type 0 where
     pub prints_are : prints ≡ c.prints
-    pub light : w + held ≤ 2 * c.weight + owed c.stack + nulls
+    pub light : w + held ≤ 2 * c.weight + owed c.stack
     pub shallow : d ≤ c.depth
     pub within : live_state c.focus c.stack ≤ c.depth
     pub first : 16 + nodes ≤ c.depth
-    pub worlds : WorldBelongs program.groups known context.globals c.store world
-    pub state : StateBelongs program context nodes world known held c.focus c.stack f k
+    pub stands : Standing program context nodes world known held c.store c.focus c.stack f k
 
-  module _ (before nulls : ℕ) (known : List Known) (w d : ℕ) (prints : List Bytes) (world : World) (f : Focus) (k : List Frame) where
+  module _ (before : ℕ) (known : List Known) (w d : ℕ) (prints : List Bytes) (world : World) (f : Focus) (k : List Frame) where
     -- the run comes to where the execution stands then; it has no further step only where the rank falls
     pub record GoesOn (c : Configuration) : Type 0 where
       pub steps : ℕ
@@ -43,7 +41,7 @@ module _ (program : Core) (context : Context) (nodes : ℕ) where
       pub falls : steps ≡ 0 → suc (rank c.focus c.stack) ≤ before
       pub grows : (more : List Known) × (known' ≡ known ++ more)
       pub requests : world'.requests ≡ world.requests
-      pub together : Together held' nulls known' c weight' depth' prints' world' f' k'
+      pub together : Together held' known' c weight' depth' prints' world' f' k'
 
     -- the run is over, with what the execution printed
     pub record IsOver (c : Configuration) (end : End Waiting) : Type 0 where
@@ -54,7 +52,7 @@ module _ (program : Core) (context : Context) (nodes : ℕ) where
       pub world' : World
       pub by : (more : ℕ) → run (core_machine program) context (steps + more) w d prints world (at program context nodes f k) ≡ Over weight' depth' prints' world' end
       pub prints_are : prints' ≡ c.prints
-      pub light : weight' ≤ 2 * c.weight + owed c.stack + nulls
+      pub light : weight' ≤ 2 * c.weight + owed c.stack
 
     -- a move
     abbrev pub MoveTurns : Configuration → Move → Type 0
@@ -72,7 +70,7 @@ module _ (program : Core) (context : Context) (nodes : ℕ) where
 
   abbrev pub TurnsFollow : Type 0
   TurnsFollow =
-      (held nulls : ℕ) (known : List Known) (c : Configuration) (w d : ℕ) (prints : List Bytes) (world : World) (f : Focus) (k : List Frame) → (t : Together held nulls known c w d prints world f k)
-      → IsPlain program context nodes world known held c.focus c.stack f k t.state → Suits known c.focus c.stack
-      → MoveTurns (rank c.focus c.stack) nulls known w d prints world f k c (move c.focus c.stack)
-      × ActTurns (rank c.focus c.stack) (nulls + lacking c.focus) known w d prints world f k c (reduces context.head None c.store c.focus c.stack)
+      (held : ℕ) (known : List Known) (c : Configuration) (w d : ℕ) (prints : List Bytes) (world : World) (f : Focus) (k : List Frame) → Together held known c w d prints world f k
+      → Suits known c.focus c.stack
+      → MoveTurns (rank c.focus c.stack) known w d prints world f k c (move c.focus c.stack)
+      × ActTurns (rank c.focus c.stack) known w d prints world f k c (reduces context.head None c.store c.focus c.stack)

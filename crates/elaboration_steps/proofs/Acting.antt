@@ -1,7 +1,6 @@
 -- What is done where all operands have their values.
-use Rattle.std.proofs.Common.{◌≡◌, ℕ, zero, suc, ◌+◌, ◌*◌, ◌≤◌, Bool, false, List, [], ◌∷◌, ◌++◌, length, Option, Some, None, slice_get, refl, sym, ap, ◌∙◌, subst, arith}
-use Rattle.std.specs.Prelude.{slice_set, cond, nat_eq}
-use Rattle.std.proofs.lemmas.Bool.{eq-eqb}
+use Rattle.std.proofs.Common.{◌≡◌, ℕ, ◌+◌, ◌*◌, ◌≤◌, Bool, List, [], ◌∷◌, ◌++◌, length, Option, Some, None, slice_get, refl, sym, ap, ◌∙◌, subst, arith}
+use Rattle.std.specs.Prelude.{slice_set}
 use Rattle.mo_num.specs.declared.operator.Operator.{Operator}
 use Rattle.mo_num.specs.declared.operator.Operator.TheVariants as operator
 use Rattle.mo_types.specs.declared.datum.Datum.TheVariants as part
@@ -25,40 +24,38 @@ use Rattle.core_ir.specs.Values.{Handle}
 use Rattle.core_ir.specs.Primitives as primitives
 use Rattle.core_ir.specs.Primitives.{Done}
 use Rattle.core_ir.specs.Openings.{option_opened}
-use Rattle.core_ir.specs.Worlds.{MadeGroup, World, Context, with_store}
+use Rattle.core_ir.specs.Worlds.{World, Context, with_store}
 use Rattle.core_ir.specs.Executions.{Go, Ends}
 use Rattle.core_ir.specs.Executions as execution
 use Rattle.core_ir.specs.Expressions as core
 use Rattle.core_ir.specs.Expressions.{NoExp, Constant?, Core}
-use Rattle.core_ir.specs.CoreMachine as core_machine
-use Rattle.core_ir.specs.CoreMachine.{Frame, Arguments, Join, Focus, Eval, Give, focused, at, act, operated, matched, depth_of, Caller, called, stuck}
+use Rattle.core_ir.specs.CoreMachine.{Frame, Arguments, Join, Focus, Eval, Give, focused, at, act, operated, matched, depth_of}
 use Rattle.typed_tree.specs.declared.action.Action.{Action}
 use Rattle.typed_tree.specs.declared.action.Action.TheVariants as action
 use Rattle.typed_tree.specs.declared.action.Member.{Member}
 use Rattle.typed_tree.specs.declared.action.Member.TheVariants as member
 use Rattle.mo_machine.specs.Values as machine_value
-use Rattle.mo_machine.specs.Values.{Value, Values, Made, Closure, BuiltIn, NoValue, AValue, Code, BuiltInCode, shape_of, shapes_list, value_of, listed}
+use Rattle.mo_machine.specs.Values.{Value, Made, Closure, BuiltIn, NoValue, AValue, Code, shape_of, shapes_list, value_of}
 use Rattle.mo_machine.specs.Acts.{Store, Act, Stuck, goes}
-use Rattle.mo_machine.specs.Acts as acts
 use Rattle.mo_machine.specs.Frames as machine
-use Rattle.mo_machine.specs.Frames.{Stack, Ready, Returning}
+use Rattle.mo_machine.specs.Frames.{Stack, Ready}
 use Rattle.mo_machine.specs.Measure.{left_on}
 use Rattle.mo_machine.specs.Cells.{cell_of, held, goes_to, written, written_in}
 use Rattle.mo_machine.specs.Jumps.{on_stack, unwrapped, leave}
-use Rattle.mo_machine.specs.Members.{call_member}
 use Rattle.mo_machine.specs.Actions as actions
 use Rattle.elaboration.specs.Scopes as scopes
 use Rattle.elaboration.specs.Scopes.{one}
 use Rattle.elaboration.specs.Meeting.{There}
 use Rattle.elaboration.proofs.Coming.{step}
-use Rattle.elaboration_values.specs.Belonging.{Known, OfFunctions, OfMember, code_in, Names, Belongs, EachBelongs}
+use Rattle.elaboration_values.specs.Belonging.{Known, Names, Belongs, EachBelongs}
 use Rattle.elaboration_values.proofs.Belong.{operations}
-use Rattle.elaboration_steps.specs.Stacks.{Labels, no_labels, IsGoal, row_of, alone, function_body, spare, goal_at, MemberBelongs, WorldBelongs, StateBelongs, AtAction, AtValue, Around, InFunction}
-use Rattle.elaboration_steps.specs.Follows.{owed, lacking, Suits, Acts}
+use Rattle.elaboration_steps.specs.Stacks.{Labels, IsGoal, row_of, spare, goal_at, WorldBelongs, StateBelongs, AtAction, AtValue, Around}
+use Rattle.elaboration_steps.specs.Follows.{owed, Suits, Acts}
 use Rattle.elaboration_steps.proofs.Entering.{call_follows}
+use Rattle.elaboration_steps.proofs.MemberCalls.{member_called}
 use Rattle.elaboration_steps.proofs.Leaving.{act_out, past_joins, leaves}
-use Rattle.elaboration_steps.proofs.Paths.{nothing_more, does, does_then, stops, acts_ahead}
-use Rattle.elaboration_steps.proofs.Rows.{some_action, alone_row, row_goal, member_acts}
+use Rattle.elaboration_steps.proofs.Paths.{nothing_more, does, does_then, stops}
+use Rattle.elaboration_steps.proofs.Rows.{some_action}
 use Rattle.elaboration_steps.proofs.Throwing.{throws}
 use Rattle.elaboration_steps.proofs.Values.{value_belongs, each_append, as_many, Both, get_both, set_both, same_cell}
 
@@ -154,89 +151,18 @@ module _ (program : Core) (context : Context) (nodes : ℕ) (before supply : ℕ
     waits_for_nothing (Made (Future call) NoValue) = tt
     waits_for_nothing _ = tt
 
-    -- a built-in function that is a value: Core enters its body
-    member_enters : (m : Member) (a : Action) (vs : List Value) (ws : List core_value.Value) (h : Handle) → EachBelongs known vs ws → length vs ≡ 1 → alone m ≡ Some a → (made : MadeGroup) → slice_get world.groups h.group ≡ Some made → h.member ≡ 0
-        → slice_get program.groups made.code ≡ Some (record { sees = length made.seen; bodies = function_body a ∷ [] }) → focused program context nodes world cf ck ≡ called program context nodes world (shape.Function h) ws None others
-        → T (acts.Goes (weighing 1) store (Ready a ([] ++ vs)) (Returning 0 ∷ []))
-    member_enters m a [] ws h r many is made at first there eq = absurd (let z : 0 ≡ 1 = many in cc)
-    member_enters m a (v ∷ u ∷ vs) ws h r many is made at first there eq = absurd (let z : suc (suc (length vs)) ≡ 1 = many in let y : ⊥ = omega (arith, z) in y)
-    member_enters m a (v ∷ []) [] h r many is made at first there eq = absurd r
-    member_enters m a (v ∷ []) (w ∷ x ∷ ws) h r many is made at first there eq = absurd (r.1)
-    member_enters m a (v ∷ []) (w ∷ []) h r many is made at first there eq =
-        does_then program context nodes 0 before (spent + owed k) (2 * 1 + supply) 0 less (weighing (1 + 0)) [] known known world world cf ck (Eval body env) (Caller 0 None ∷ others) (Give w) (Arguments goal [] NoExp env ∷ Caller 0 None ∷ others) store (Ready a (v ∷ [])) (Returning 0 ∷ k)
-        (eq
-        ∙ (ap (λ o. on_some (stuck program context nodes world) o (λ g. on_some (stuck program context nodes world) (slice_get program.groups g.code) (λ i. cond (nat_eq (length g.seen) i.sees) (core_machine.entered program context nodes world h.group (w ∷ []) g.seen None others i.bodies h.member) (stuck program context nodes world)))) at
-        ∙ (ap (λ o. on_some (stuck program context nodes world) o (λ i. cond (nat_eq (length made.seen) i.sees) (core_machine.entered program context nodes world h.group (w ∷ []) made.seen None others i.bodies h.member) (stuck program context nodes world))) there
-        ∙ (ap (λ t. cond t (core_machine.entered program context nodes world h.group (w ∷ []) made.seen None others (function_body a ∷ []) h.member) (stuck program context nodes world)) (eq-eqb (length made.seen) (length made.seen) refl)
-        ∙ ap (λ n. core_machine.entered program context nodes world h.group (w ∷ []) made.seen None others (function_body a ∷ []) n) first))))
-        (step program context nodes world 0 0 (Eval body env) (Caller 0 None ∷ others) (Eval (core.Name 0) env) (Arguments goal [] NoExp env ∷ Caller 0 None ∷ others) refl (Give w) (Arguments goal [] NoExp env ∷ Caller 0 None ∷ others) refl
-        (step program context nodes world 0 0 (Eval (core.Name 0) env) (Arguments goal [] NoExp env ∷ Caller 0 None ∷ others) (Give w) (Arguments goal [] NoExp env ∷ Caller 0 None ∷ others) refl (Give w) (Arguments goal [] NoExp env ∷ Caller 0 None ∷ others) refl
-        (There 0 (Give w) (Arguments goal [] NoExp env ∷ Caller 0 None ∷ others))))
-        (omega (arith, paid)) (omega arith) ([], nothing_more known) refl worlds
-        (AtAction a (v ∷ []) (Returning 0 ∷ k) (Give w) (Arguments goal [] NoExp env ∷ Caller 0 None ∷ others) (record {
-          b = false;
-          l = no_labels;
-          values = w ∷ [];
-          vals = env;
-          weight = 0;
-          less = less;
-          f' = Give w;
-          ck' = Arguments goal [] NoExp env ∷ Caller 0 None ∷ others;
-          others = Caller 0 None ∷ others;
-          arguments = r;
-          may = row_goal m a (alone_row m a is);
-          path = There 0 (Give w) (Arguments goal [] NoExp env ∷ Caller 0 None ∷ others);
-          acts = refl;
-          level = refl;
-          paid = omega arith;
-          around = InFunction 0 b l less k [] others tt around;
-        }))
-      where
-        goal : core.Goal
-        goal = goal_at no_labels a
-
-        body : core.Exp
-        body = core.Do goal (one (core.Name 0))
-
-        env : List core_value.Value
-        env = w ∷ (core_value.members h.group 0 1 ++ made.seen)
-
-    first_member : (n : ℕ) (m : Member) (holds : Values) (code : Code) → code_in (Some (OfMember m holds)) n ≡ Some code → (n ≡ 0) × (BuiltInCode m holds ≡ code)
-    first_member zero m holds code z = (refl, let y : Some (BuiltInCode m holds) ≡ Some code = z in cc)
-    first_member (suc n) m holds code z = absurd (let y : None ≡ Some code = z in cc)
-
-    member_called : (m : Member) (holds : Values) (vs : List Value) (ws : List core_value.Value) (h : Handle) → Names known (BuiltInCode m holds) h → EachBelongs known vs ws → Suits known (Ready action.Call (BuiltIn m holds ∷ vs)) k
-        → focused program context nodes world cf ck ≡ called program context nodes world (shape.Function h) ws None others → T (call_member store m (listed holds) vs)
-    member_called m holds vs ws h value r suits eq = by (slice_get known h.group) refl value
-      where
-        by : (o : Option Known) → slice_get known h.group ≡ o → code_in o h.member ≡ Some (BuiltInCode m holds) → T (call_member store m (listed holds) vs)
-        by None e z = absurd (let y : None ≡ Some (BuiltInCode m holds) = z in cc)
-        by (Some (OfFunctions fns env)) e z = absurd (let y : Some (machine_value.ClosureCode fns h.member env) ≡ Some (BuiltInCode m holds) = z in cc)
-        by (Some (OfMember n inside)) e z =
-            let c : (h.member ≡ 0) × (BuiltInCode n inside ≡ BuiltInCode m holds) = first_member h.member n inside (BuiltInCode m holds) z in
-            let x : BuiltInCode n inside ≡ BuiltInCode m holds = c.1 in
-            let y : n ≡ m = cc in
-            let u : inside ≡ holds = cc in
-            let f : (i : MadeGroup) × (slice_get world.groups h.group ≡ Some i) × MemberBelongs program.groups known context.globals n inside i = worlds.groups.each h.group (OfMember n inside) e in
-            found (f.0) (f.1) (c.0) (subst (λ i. MemberBelongs program.groups known context.globals i holds (f.0)) y (subst (λ i. MemberBelongs program.groups known context.globals n i (f.0)) u (f.2)))
-          where
-            found : (made : MadeGroup) → slice_get world.groups h.group ≡ Some made → h.member ≡ 0 → MemberBelongs program.groups known context.globals m holds made → T (call_member store m (listed holds) vs)
-            found made at first g =
-                subst (λ i. T (call_member store m (listed i) vs)) (sym g.empty)
-                (member_acts store T m g.a [] vs (alone_row m g.a g.is) tt (member_enters m g.a vs ws h r (suits g.a g.is) g.is made at first g.there eq))
-
     call_alike : (f : Value) (w : core_value.Value) (vs : List Value) (ws vals : List core_value.Value) → Belongs known f w → EachBelongs known vs ws → Suits known (Ready action.Call (f ∷ vs)) k → focused program context nodes world cf ck ≡ act program context nodes world core.Call (w ∷ ws) vals others
         → T (actions.call store f vs)
     call_alike (Closure group which env) (shape.Function h) vs ws vals value arguments suits eq =
         call_follows program context nodes before supply known world store k worlds spent cf ck vs ws arguments h b l less others around paid eq group which env value (suits ws arguments)
     call_alike (Closure group which env) (shape.Made i us) vs ws vals value arguments suits eq = absurd value
-    call_alike (BuiltIn m holds) (shape.Function h) vs ws vals value arguments suits eq = member_called m holds vs ws h value arguments suits eq
+    call_alike (BuiltIn m holds) (shape.Function h) vs ws vals value arguments suits eq = member_called program context nodes before supply known world store k worlds spent cf ck b l less others around paid m holds vs ws h value arguments suits eq
     call_alike (BuiltIn m holds) (shape.Made i us) vs ws vals value arguments suits eq = absurd value
     call_alike (Made i us) w vs ws vals value arguments suits eq = tt
 
   -- ---- `!`
 
-  module _ (b : Bool) (l : Labels) (less : ℕ) (others : List Frame) (around : Around program context nodes world known b l less k others) (n : ℕ) (vals : List core_value.Value) (paid : spent + less + 1 ≤ supply) (low : 4 * left_on k + length k + 1 ≤ before) (level : depth_of ck ≡ depth_of others) where
+  module _ (b : Bool) (l : Labels) (less : ℕ) (others : List Frame) (around : Around program context nodes world known b l less k others) (n : ℕ) (vals : List core_value.Value) (paid : spent + less ≤ supply) where
     abbrev leaving : core.Goal
     leaving = scopes.leave l.count (slice_get l.exits n)
 
@@ -247,13 +173,34 @@ module _ (program : Core) (context : Context) (nodes : ℕ) (before supply : ℕ
     unwraps (Made (Leaf part.Null) NoValue) (shape.Made i NoShape) value eq =
         ahead (eq ∙ ap (λ h. matched program context nodes world (core.Name 0) null_with vals others (option_opened (shape.Made h NoShape))) (sym (value.0)))
       where
-        ahead : focused program context nodes world cf ck ≡ Go (weighing 1) [] world (at program context nodes (Eval null_with vals) (Join ∷ others)) → T (acts.Leaves n machine_value.null)
+        jumping : Frame
+        jumping = Arguments leaving [] NoExp vals
+
+        ahead : focused program context nodes world cf ck ≡ Go (weighing 1) [] world (at program context nodes (Eval null_with vals) (Join ∷ others)) → T (goes store (Ready (action.Break n) (machine_value.null ∷ [])) [])
         ahead eq2 =
-            acts_ahead program context nodes before supply known world store k 1 spent cf ck (Eval null_with vals) (Join ∷ others) (leave store n machine_value.null k) eq2 level
-            (acts_ahead program context nodes before supply known world store k 0 (spent + 1) _ _ (Eval (Constant? (constant.Leaf part.Null)) vals) (Arguments leaving [] NoExp vals ∷ Join ∷ others) (leave store n machine_value.null k) refl refl
-            (acts_ahead program context nodes before supply known world store k 0 (spent + 1 + 0) _ _ (Give core_value.null) (Arguments leaving [] NoExp vals ∷ Join ∷ others) (leave store n machine_value.null k) refl refl
-            (leaves program context nodes before supply known world store k worlds machine_value.null core_value.null (refl, tt) (spent + 1 + 0 + 0) (Give core_value.null) (Arguments leaving [] NoExp vals ∷ Join ∷ others) b l less n k others around
-            (act_out program context nodes world core_value.null (slice_get l.exits n) l.count vals (Join ∷ others) ∙ past_joins program context nodes world core_value.null (slice_get l.exits n) l.count (Join ∷ []) others tt) (omega (arith, paid)) refl low refl)))
+            does_then program context nodes 0 before (spent + owed k) (2 * 1 + supply) 0 less (weighing 1) [] known known world world cf ck (Eval null_with vals) (Join ∷ others) (Give core_value.null) (jumping ∷ Join ∷ others) store (Ready (action.Break n) (machine_value.null ∷ [])) k eq2
+            (step program context nodes world 0 0 (Eval null_with vals) (Join ∷ others) (Eval (Constant? (constant.Leaf part.Null)) vals) (jumping ∷ Join ∷ others) refl (Give core_value.null) (jumping ∷ Join ∷ others) refl
+            (step program context nodes world 0 0 (Eval (Constant? (constant.Leaf part.Null)) vals) (jumping ∷ Join ∷ others) (Give core_value.null) (jumping ∷ Join ∷ others) refl (Give core_value.null) (jumping ∷ Join ∷ others) refl (There 0 (Give core_value.null) (jumping ∷ Join ∷ others))))
+            (omega (arith, paid)) (omega arith) ([], nothing_more known) refl worlds
+            (AtAction (action.Break n) (machine_value.null ∷ []) k (Give core_value.null) (jumping ∷ Join ∷ others) (record {
+              b = b;
+              l = l;
+              values = core_value.null ∷ [];
+              vals = vals;
+              weight = 0;
+              less = less;
+              f' = Give core_value.null;
+              ck' = jumping ∷ Join ∷ others;
+              others = others;
+              arguments = ((refl, tt), tt);
+              may = tt;
+              path = There 0 (Give core_value.null) (jumping ∷ Join ∷ others);
+              acts = act_out program context nodes world core_value.null (slice_get l.exits n) l.count vals (Join ∷ others)
+                  ∙ (past_joins program context nodes world core_value.null (slice_get l.exits n) l.count (Join ∷ []) others tt ∙ sym (act_out program context nodes world core_value.null (slice_get l.exits n) l.count vals others));
+              level = refl;
+              paid = omega arith;
+              around = around;
+            }))
     unwraps (Made (Leaf part.Null) NoValue) (shape.Made i (AShape u us)) value eq = absurd (value.1)
     unwraps (Made (Leaf part.Null) NoValue) (shape.Function h) value eq = absurd value
     unwraps (Made Present (AValue v NoValue)) (shape.Made i (AShape u NoShape)) value eq =
@@ -276,7 +223,7 @@ module _ (program : Core) (context : Context) (nodes : ℕ) (before supply : ℕ
     lands : (world' : World) (v : Value) (w : core_value.Value) → Belongs known v w → StateBelongs program context nodes world' known less (machine.Give v) k (Give w) others
     lands world' v w value = AtValue b l v w k others value around
 
-    pub act_follows : (a : Action) (vs : List Value) (ws : List core_value.Value) → IsGoal b a → EachBelongs known vs ws → depth_of ck ≡ depth_of others → Suits known (Ready a vs) k → Before a ws → spent + less + lacking (Ready a vs) ≤ supply + spare a
+    pub act_follows : (a : Action) (vs : List Value) (ws : List core_value.Value) → IsGoal b a → EachBelongs known vs ws → depth_of ck ≡ depth_of others → Suits known (Ready a vs) k → Before a ws → spent + less ≤ supply + spare a
         → T (actions.act context.head None store a vs)
     act_follows (action.Operate o) vs ws may r level suits eq paid =
         let same : operation_cost o (shapes_list vs) (operate context.head o (shapes_list vs)) ≡ operation_cost o ws (operate context.head o ws) = (operations known context.head o (shapes_list vs) ws r).1 in
@@ -343,7 +290,7 @@ module _ (program : Core) (context : Context) (nodes : ℕ) (before supply : ℕ
     act_follows (action.Break n) (v ∷ u ∷ vs) ws may r level suits eq paid = tt
     act_follows (action.Unwrap n) [] ws may r level suits eq paid = tt
     act_follows (action.Unwrap n) (v ∷ []) [] may r level suits eq paid = absurd r
-    act_follows (action.Unwrap n) (v ∷ []) (w ∷ []) may r level suits eq paid = unwraps b l less others around n vals (omega (arith, paid)) low level v w (r.0) eq
+    act_follows (action.Unwrap n) (v ∷ []) (w ∷ []) may r level suits eq paid = unwraps b l less others around n vals (omega (arith, paid)) v w (r.0) eq
     act_follows (action.Unwrap n) (v ∷ []) (w ∷ x ∷ ws) may r level suits eq paid = absurd (r.1)
     act_follows (action.Unwrap n) (v ∷ u ∷ vs) ws may r level suits eq paid = tt
 

@@ -14,7 +14,7 @@ use Rattle.mo_machine.specs.Frames.{Stack}
 use Rattle.elaboration.specs.Scopes.{Scope, beside}
 use Rattle.elaboration_forms.specs.Elaborates.{Elaborates, ElaboratesAll, ElaboratesNames}
 use Rattle.elaboration_values.specs.Belonging.{Known}
-use Rattle.elaboration_steps.specs.Stacks.{Labels, scope, turn_with, StackBelongs, Bottom, InFunction, InOperands, InMaking, InCalling, InChoosing, InLet, InSwitch, InLabel, InTesting, InTurning, InRepeating, InRetesting, InTry, InUpdating, InGoing, InTurn, InBody, InBranch, InCase}
+use Rattle.elaboration_steps.specs.Stacks.{Labels, scope, turn_with, StackBelongs, Bottom, InFunction, InOperands, InMaking, InCalling, InHolding, InChoosing, InLet, InSwitch, InLabel, InTesting, InTurning, InRepeating, InRetesting, InTry, InUpdating, InGoing, InTurn, InBody, InBranch, InCase}
 use Rattle.elaboration_steps.proofs.Levels.{joins_level, skips_level}
 
 -- no body stands written in code
@@ -67,6 +67,7 @@ module _ (table : List (programs.Group Body)) where
         omega (arith, u, t, y)
     as_deep b l held k ck (InCalling x m h i a holds done rest env j before later vals cj row e d r) =
         let u : live_all rest ≡ 0 = no_live_all x (scope d.places m vals) rest later d.code in let y : live_on j ≡ 16 + nodes + depth_of cj = as_deep x m h j cj r in omega (arith, u, y)
+    as_deep b l held k ck (InHolding x m h i done env j n levels vals cj e d r) = below j cj (as_deep x m h j cj r)
     as_deep b l held k ck (InChoosing x m h y z env j c d vals cj p q r) = below j cj (as_deep x m h j cj r)
     as_deep b l held k ck (InLet x m h p e env j c vals cj q r) = below j cj (as_deep x m h j cj r)
     as_deep b l held k ck (InSwitch x m h cs env j c vals cj q r) = below j cj (as_deep x m h j cj r)

@@ -18,7 +18,7 @@ use Rattle.elaboration.proofs.Coming.{reads_new, reads_more}
 use Rattle.elaboration_forms.specs.Elaborates.{ElaboratesFunctions}
 use Rattle.elaboration_values.specs.Belonging.{Known, OfFunctions, OfMember, code_in, Belongs, StandsAt, EnvironmentBelongs}
 use Rattle.elaboration_steps.specs.Stacks.{GroupBelongs, GroupsBelong, WorldBelongs}
-use Rattle.elaboration_steps.proofs.Growth.{each_stays, functions_stay}
+use Rattle.elaboration_steps.proofs.Growth.{each_stays, functions_stay, member_stays}
 use Rattle.elaboration_steps.proofs.Matching.{names_more}
 
 -- ---- lists
@@ -99,7 +99,7 @@ module _ (table : List (Group Body)) (known : List Known) (globals : List core_v
 
   belongs_still : (other : Known) (made : MadeGroup) → GroupBelongs table known globals other made → GroupBelongs table grown globals other made
   belongs_still (OfFunctions fns env) made r = functions_stay table known (k ∷ []) globals fns env made r
-  belongs_still (OfMember m holds) made r = record { a = r.a; is = r.is; empty = r.empty; there = r.there }
+  belongs_still (OfMember m holds) made r = member_stays table known (k ∷ []) globals m holds made r
 
   groups_grow : (made : List MadeGroup) (m : MadeGroup) → GroupsBelong table known globals made → GroupBelongs table grown globals k m → GroupsBelong table grown globals (made ++ m ∷ [])
   groups_grow made m r new = record {

@@ -6,15 +6,16 @@ use Rattle.core_ir.specs.Worlds.{MadeGroup}
 use Rattle.core_ir.specs.Expressions as core
 use Rattle.core_ir.specs.Expressions.{Body}
 use Rattle.core_ir.specs.CoreMachine as core_machine
+use Rattle.typed_tree.specs.declared.action.Member.{Member}
 use Rattle.typed_tree.specs.Patterns.{Pat}
 use Rattle.typed_tree.specs.Language.{Exp, Exps, Cases, Functions}
-use Rattle.mo_machine.specs.Values.{Value, shape_of, listed}
+use Rattle.mo_machine.specs.Values.{Value, Values, shape_of, listed}
 use Rattle.mo_machine.specs.Environments.{Environment}
 use Rattle.mo_machine.specs.Frames.{Stack}
 use Rattle.elaboration.specs.Scopes.{Place, Local, Own, Nowhere, place_or_nowhere}
 use Rattle.elaboration_values.specs.Belonging.{Known, Belongs, EachBelongs, StandsAt, EnvironmentBelongs}
 use Rattle.elaboration_values.proofs.Belong.{stay}
-use Rattle.elaboration_steps.specs.Stacks.{Labels, Coded, CodedAll, CodedBeside, CodedPattern, CodedTurn, CodedCases, FunctionsBelong, StackBelongs, Bottom, InFunction, InOperands, InMaking, InCalling, InChoosing, InLet, InSwitch, InLabel, InTesting, InTurning, InRepeating, InRetesting, InTry, InUpdating, InGoing, InTurn, InBody, InBranch, InCase}
+use Rattle.elaboration_steps.specs.Stacks.{Labels, Coded, CodedAll, CodedBeside, CodedPattern, CodedTurn, CodedCases, HeldAt, FunctionsBelong, MemberBelongs, StackBelongs, Bottom, InFunction, InOperands, InMaking, InCalling, InHolding, InChoosing, InLet, InSwitch, InLabel, InTesting, InTurning, InRepeating, InRetesting, InTry, InUpdating, InGoing, InTurn, InBody, InBranch, InCase}
 
 module _ (table : List (Group Body)) (known more : List Known) (globals : List core_value.Value) where
   abbrev grown : List Known
@@ -58,6 +59,15 @@ module _ (table : List (Group Body)) (known more : List Known) (globals : List c
   pub functions_stay : (fns : Functions) (env : Environment) (made : MadeGroup) → FunctionsBelong table known globals fns env made → FunctionsBelong table grown globals fns env made
   functions_stay fns env made r = record { places = r.places; labels = r.labels; bodies = r.bodies; there = r.there; code = r.code; names = names_stay r.places env made.seen r.names }
 
+  held_stays : (vals : List core_value.Value) (levels : List ℕ) (vs : List Value) → HeldAt known vals levels vs → HeldAt grown vals levels vs
+  held_stays vals [] [] a = tt
+  held_stays vals [] (v ∷ vs) a = absurd a
+  held_stays vals (level ∷ levels) [] a = absurd a
+  held_stays vals (level ∷ levels) (v ∷ vs) a = ((a.0.0, a.0.1, value_stays v (a.0.0) (a.0.2)), held_stays vals levels vs (a.1))
+
+  pub member_stays : (m : Member) (holds : Values) (made : MadeGroup) → MemberBelongs table known globals m holds made → MemberBelongs table grown globals m holds made
+  member_stays m holds made r = record { n = r.n; levels = r.levels; held = held_stays made.seen r.levels (listed holds) r.held; there = r.there; code = r.code }
+
   module _ (nodes : ℕ) where
     pub stack_stays : (b : Bool) (l : Labels) (held : ℕ) (k : Stack) (ck : List core_machine.Frame) → StackBelongs table known globals nodes b l held k ck → StackBelongs table grown globals nodes b l held k ck
     stack_stays b l held k ck (Bottom c h js q) = Bottom c h js q
@@ -68,6 +78,7 @@ module _ (table : List (Group Body)) (known more : List Known) (globals : List c
         InMaking x m h i a done rest args env j before later arguments vals cj row (each_stays done before e) (all_stays x m rest env later vals d) (all_stays x m args env arguments vals f) (stack_stays x m h j cj r)
     stack_stays b l held k ck (InCalling x m h i a holds done rest env j before later vals cj row e d r) =
         InCalling x m h i a holds done rest env j before later vals cj row (each_stays (listed holds ++ done) before e) (all_stays x m rest env later vals d) (stack_stays x m h j cj r)
+    stack_stays b l held k ck (InHolding x m h i done env j n levels vals cj e d r) = InHolding x m h i done env j n levels vals cj (held_stays vals levels done e) d (stack_stays x m h j cj r)
     stack_stays b l held k ck (InChoosing x m h y z env j c d vals cj p q r) =
         InChoosing x m h y z env j c d vals cj (code_stays x m y env c vals p) (code_stays x m z env d vals q) (stack_stays x m h j cj r)
     stack_stays b l held k ck (InLet x m h p e env j c vals cj q r) = InLet x m h p e env j c vals cj (pattern_stays x m p e env c vals q) (stack_stays x m h j cj r)

@@ -6,7 +6,7 @@ use Rattle.core_ir.specs.Expressions.{Body}
 use Rattle.core_ir.specs.CoreMachine as core_machine
 use Rattle.mo_machine.specs.Frames.{Stack}
 use Rattle.elaboration_values.specs.Belonging.{Known}
-use Rattle.elaboration_steps.specs.Stacks.{Labels, no_labels, with_label, with_own_label, StackBelongs, Bottom, InFunction, InOperands, InMaking, InCalling, InChoosing, InLet, InSwitch, InLabel, InTesting, InTurning, InRepeating, InRetesting, InTry, InUpdating, InGoing, InTurn, InBody, InBranch, InCase}
+use Rattle.elaboration_steps.specs.Stacks.{Labels, no_labels, with_label, with_own_label, StackBelongs, Bottom, InFunction, InOperands, InMaking, InCalling, InHolding, InChoosing, InLet, InSwitch, InLabel, InTesting, InTurning, InRepeating, InRetesting, InTry, InUpdating, InGoing, InTurn, InBody, InBranch, InCase}
 
 abbrev pub Within : Labels → Type 0
 Within l = (i : ℕ) (a : ℕ) → slice_get l.exits i ≡ Some a → a < l.count
@@ -32,6 +32,7 @@ module _ (table : List (Group Body)) (known : List Known) (globals : List Value)
   within b l held k ck (InOperands c m h a done rest env j before later vals cj g e d r) = within c m h j cj r
   within b l held k ck (InMaking x m h i a done rest args env j before later arguments vals cj row e d f r) = within x m h j cj r
   within b l held k ck (InCalling x m h i a holds done rest env j before later vals cj row e d r) = within x m h j cj r
+  within b l held k ck (InHolding x m h i done env j n levels vals cj e d r) = within x m h j cj r
   within b l held k ck (InChoosing x m h y z env j c d vals cj p q r) = within x m h j cj r
   within b l held k ck (InLet x m h p e env j c vals cj q r) = within x m h j cj r
   within b l held k ck (InSwitch x m h cs env j c vals cj q r) = within x m h j cj r

@@ -8,6 +8,7 @@ use Rattle.core_ir.specs.Expressions.{Exp, Exps, Goal, Core}
 use Rattle.core_ir.specs.CoreMachine as core_machine
 use Rattle.core_ir.specs.CoreMachine.{Frame, Arguments, Looping, Caller, Join, Focus, Did, focused, act, left, returned, at, depth_of}
 use Rattle.typed_tree.specs.declared.action.Action.TheVariants as action
+use Rattle.typed_tree.specs.Language as source
 use Rattle.mo_machine.specs.Values.{Value}
 use Rattle.mo_machine.specs.Values as machine_value
 use Rattle.mo_machine.specs.Acts.{Store, Act, goes}
@@ -18,7 +19,7 @@ use Rattle.mo_machine.specs.Jumps.{leave}
 use Rattle.elaboration.specs.Scopes as scopes
 use Rattle.elaboration.specs.Meeting.{Joins, There}
 use Rattle.elaboration_values.specs.Belonging.{Known, Belongs}
-use Rattle.elaboration_steps.specs.Stacks.{Passed, Labels, goal_at, turn_with, WorldBelongs, AtAction, AtValue, AtEnd, Around, Bottom, InFunction, InOperands, InMaking, InCalling, InChoosing, InLet, InSwitch, InLabel, InTesting, InTurning, InRepeating, InRetesting, InTry, InUpdating, InGoing, InTurn, InBody, InBranch, InCase}
+use Rattle.elaboration_steps.specs.Stacks.{Passed, Labels, goal_at, turn_with, WorldBelongs, AtAction, AtValue, AtEnd, Around, Bottom, InFunction, InOperands, InMaking, InCalling, InHolding, InChoosing, InLet, InSwitch, InLabel, InTesting, InTurning, InRepeating, InRetesting, InTry, InUpdating, InGoing, InTurn, InBody, InBranch, InCase}
 use Rattle.elaboration_steps.specs.Follows.{owed, Acts}
 use Rattle.elaboration_steps.proofs.Labels.{within}
 use Rattle.elaboration_steps.proofs.Levels.{joins_level, skips_level}
@@ -174,6 +175,8 @@ module _ (program : Core) (context : Context) (nodes : ℕ) (before held : ℕ) 
   leaves b l less n k ck (InCalling x l' h i a holds done rest env j bs later vals cj row e d r) eq le q low deep =
       subst A (sym (passes store v j (Operands action.Call (machine_value.BuiltIn i holds ∷ done) rest env) tt n))
       (leaves x l' h n j cj r (eq ∙ past_args program context nodes world w (slice_get l'.exits n) l'.count (goal_at l' a) bs later vals cj) le q (omega (arith, low)) deep)
+  leaves b l less n k ck (InHolding x l' h i done env j number levels vals cj e d r) eq le q low deep =
+      subst A (sym (passes store v j (Operands (action.BuiltIn i) done source.NoExp env) tt n)) (leaves x l' h n j cj r (eq ∙ past_args program context nodes world w (slice_get l'.exits n) l'.count _ _ _ vals cj) le q (omega (arith, low)) deep)
   leaves b l less n k ck (InChoosing x l' h y z env j c d vals cj p i r) eq le q low deep =
       subst A (sym (passes store v j (Choosing y z env) tt n)) (leaves x l' h n j cj r (eq ∙ past_args program context nodes world w (slice_get l'.exits n) l'.count _ _ _ vals cj) le q (omega (arith, low)) deep)
   leaves b l less n k ck (InLet x l' h p e env j c vals cj i r) eq le q low deep =

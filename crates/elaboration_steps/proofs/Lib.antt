@@ -10,9 +10,14 @@ pub mod Throwing
 pub mod Groups
 pub mod Entering
 pub mod Taking
+pub mod Members
+pub mod Depth
+pub mod Filling
+pub mod MemberCalls
 pub mod Acting
+pub mod Characters
 pub mod Moving
 pub mod Reducing
-pub mod Depth
+pub mod Standing
 pub mod Beginning
 pub mod Running

@@ -1,5 +1,5 @@
 -- Where the machine of typed programs only looks for its next reduction.
-use Rattle.std.proofs.Common.{◌≡◌, ℕ, zero, suc, ◌+◌, ◌≤◌, Bool, true, false, List, [], ◌∷◌, ◌++◌, length, Option, Some, None, slice_get, refl, sym, ap, ap₂, ◌∙◌, subst, arith}
+use Rattle.std.proofs.Common.{◌≡◌, ◌⊎◌, inl, inr, ℕ, zero, suc, ◌+◌, ◌≤◌, Bool, true, false, List, [], ◌∷◌, ◌++◌, length, Option, Some, None, slice_get, refl, sym, ap, ap₂, ◌∙◌, subst, arith}
 use Rattle.mo_types.specs.declared.datum.Datum.TheVariants as part
 use Rattle.mo_num.specs.declared.kind.Kind.TheVariants as kind
 use Rattle.mo_values.specs.declared.operation.Operation.TheVariants as op
@@ -7,12 +7,11 @@ use Rattle.mo_values.specs.Costs.{weighing}
 use Rattle.mo_values.specs.Shapes.{Leaf, Tuple}
 use Rattle.mo_values.specs.Shapes as shape
 use Rattle.core_ir.specs.Choices.{on_some}
-use Rattle.core_ir.specs.Programs.{Group}
 use Rattle.core_ir.specs.Values as core_value
 use Rattle.core_ir.specs.Worlds.{World, Context}
 use Rattle.core_ir.specs.Executions.{Go}
 use Rattle.core_ir.specs.Expressions as core
-use Rattle.core_ir.specs.Expressions.{NoExp, AnExp, Choose, Bind, Core, Body}
+use Rattle.core_ir.specs.Expressions.{NoExp, AnExp, Choose, Bind, Core}
 use Rattle.core_ir.specs.CoreMachine as core_machine
 use Rattle.core_ir.specs.CoreMachine.{Frame, Arguments, Focus, Eval, Give, focused, at, stuck, depth_of}
 use Rattle.core_ir.specs.declared.primitive.Primitive.TheVariants as primitive
@@ -31,16 +30,17 @@ use Rattle.mo_machine.specs.Frames.{Operands, Choosing, Switching, Going, Updati
 use Rattle.mo_machine.specs.Moves.{Move, Moved, Reduces, move, found}
 use Rattle.elaboration.specs.Scopes.{Scope, Place, Local, Own, Nowhere, place_or_nowhere, at_place, beside, inside, one, append}
 use Rattle.elaboration.specs.Checks.{around_all, behind, fails}
-use Rattle.elaboration.specs.Members.{form_of, function_of, called, bind_all, let_in}
-use Rattle.elaboration.specs.Elaboration.{goal_of, on_nearest, constant_of}
+use Rattle.elaboration.specs.Members.{form_of, number_of, function_of, levels_from, called, bind_all, let_in}
+use Rattle.elaboration.specs.Elaboration.{count_of, goal_of, on_nearest, constant_of}
 use Rattle.elaboration.specs.Meeting.{There}
-use Rattle.elaboration.proofs.Coming.{assoc, pop}
-use Rattle.elaboration_forms.specs.Elaborates.{IsPlace, Elaborates, ElaboratesAll, ElaboratesCases, HasGroups}
+use Rattle.elaboration.proofs.Coming.{assoc, pop, step}
+use Rattle.elaboration_forms.specs.Elaborates.{IsPlace, Elaborates, ElaboratesAll, ElaboratesNames, ElaboratesCases, HasGroups}
 use Rattle.elaboration_values.specs.Belonging.{Known, Belongs, EachBelongs, StandsAt, EnvironmentBelongs}
-use Rattle.elaboration_steps.specs.Stacks.{Labels, labels_of, with_label, with_own_label, scope, goal_at, IsGoal, row_of, alone, function_body, update_with, turn_with, body_cases, joinings, Passing, Written, Arrived, Coded, CodedAll, with_operands, Calling, WorldBelongs, StateBelongs, AtCode, AtWhile, AtRepeat, AtAction, AtValue, AtEnd, AtBody, AtTurned, AtGoing, AtLeft, AtCallee, AtMaking, AtMade, AtApplied, AtInner, AtBack, AtFunction, Around, Bottom, InFunction, InOperands, InMaking, InCalling, InChoosing, InLet, InSwitch, InLabel, InTesting, InTurning, InRepeating, InRetesting, InTry, InUpdating, InGoing, InTurn, InBody, InBranch, InCase}
-use Rattle.elaboration_steps.specs.Follows.{further, rank, owed, IsPlainCode, IsPlain, MoveFollows}
+use Rattle.elaboration_steps.specs.Stacks.{Labels, labels_of, with_label, with_own_label, scope, goal_at, IsGoal, row_of, update_with, turn_with, body_cases, joinings, Passing, Written, Arrived, Coded, CodedAll, with_operands, Calling, WorldBelongs, StateBelongs, AtCode, AtWhile, AtRepeat, AtAction, AtValue, AtEnd, AtBody, AtTurned, AtGoing, AtLeft, AtCallee, AtMaking, AtMade, AtApplied, AtInner, AtBack, AtFunction, Later, LaterBy, AtRaising, AtWriting, AtWritten, Around, Bottom, InFunction, InOperands, InMaking, InCalling, InHolding, InChoosing, InLet, InSwitch, InLabel, InTesting, InTurning, InRepeating, InRetesting, InTry, InUpdating, InGoing, InTurn, InBody, InBranch, InCase}
+use Rattle.elaboration_steps.specs.Follows.{further, rank, owed, MoveFollows}
 use Rattle.elaboration_steps.proofs.Rows.{some_action}
 use Rattle.elaboration_steps.proofs.Leaving.{past_skips}
+use Rattle.elaboration_steps.proofs.Members.{IsCalled, done_or_called, value_called, as_many_operands, only_name, held_more}
 use Rattle.elaboration_steps.proofs.Paths.{nothing_more, waits, steps, does, follows_behind}
 use Rattle.elaboration_steps.proofs.Values.{each_append}
 
@@ -79,19 +79,6 @@ row_form member.PrincipalFromActor a l ds fs names n e = ap (λ x. core.Do (goal
 row_form member.ArraySize a l ds fs names n e = ap (λ x. core.Do (goal_at l x) (append ds fs)) (some_action (action.Operate op.ArraySize) a e)
 row_form member.TextSize a l ds fs names n e = ap (λ x. core.Do (goal_at l x) (append ds fs)) (some_action (action.Operate op.TextSize) a e)
 row_form _ a l ds fs names n e = absurd (let z : None ≡ Some a = e in cc)
-
--- what is made of a built-in function that is a value
-member_form : (table : List (Group Body)) (m : Member) (a : Action) (names level n : ℕ) → alone m ≡ Some a
-    → ((function_of (form_of m) names level n).exp ≡ core.Functions n (core.Name 0)) × (HasGroups table n (function_of (form_of m) names level n).groups → slice_get table n ≡ Some (record { sees = names; bodies = function_body a ∷ [] }))
-member_form table member.DebugPrint a names level n e = (refl, λ h. h.0 ∙ ap (λ x. Some (record { sees = names; bodies = function_body x ∷ [] })) (some_action action.Print a e))
-member_form table member.DebugTrap a names level n e = (refl, λ h. h.0 ∙ ap (λ x. Some (record { sees = names; bodies = function_body x ∷ [] })) (some_action (action.Operate op.Trap) a e))
-member_form table member.ErrorReject a names level n e = (refl, λ h. h.0 ∙ ap (λ x. Some (record { sees = names; bodies = function_body x ∷ [] })) (some_action (action.Operate op.RejectError) a e))
-member_form table member.ErrorMessage a names level n e = (refl, λ h. h.0 ∙ ap (λ x. Some (record { sees = names; bodies = function_body x ∷ [] })) (some_action (action.Operate op.Message) a e))
-member_form table member.ErrorCode a names level n e = (refl, λ h. h.0 ∙ ap (λ x. Some (record { sees = names; bodies = function_body x ∷ [] })) (some_action (action.Operate op.Code) a e))
-member_form table member.NatToText a names level n e = (refl, λ h. h.0 ∙ ap (λ x. Some (record { sees = names; bodies = function_body x ∷ [] })) (some_action (action.Operate (op.ToText kind.Nat)) a e))
-member_form table member.IntToText a names level n e = (refl, λ h. h.0 ∙ ap (λ x. Some (record { sees = names; bodies = function_body x ∷ [] })) (some_action (action.Operate (op.ToText kind.Int)) a e))
-member_form table member.PrincipalFromActor a names level n e = (refl, λ h. h.0 ∙ ap (λ x. Some (record { sees = names; bodies = function_body x ∷ [] })) (some_action (action.Operate op.PrincipalOf) a e))
-member_form table _ a names level n e = absurd (let z : None ≡ Some a = e in cc)
 
 module _ (program : Core) (context : Context) (nodes : ℕ) (held : ℕ) (known : List Known) (world : World) (store : Store) (worlds : WorldBelongs program.groups known context.globals store world) where
   abbrev M : machine.Focus → Stack → Focus → List Frame → Move → Type 0
@@ -195,58 +182,100 @@ module _ (program : Core) (context : Context) (nodes : ℕ) (held : ℕ) (known 
         (machine.Eval (source.Do (action.BuiltIn m) es) env) (Operands action.Call [] args env ∷ k) (omega arith) (omega arith) worlds
         (AtCallee b l m a es args env k (r.0) (r.1) vals ck row (record { places = places; code = r.3; names = names }) (record { places = places; code = r.4; names = names }) around))
 
+    -- one that is called as a value
+    value_called_follows : (m : Member) (es args : Exps) (c : core.Exp) → IsCalled m → count_of es ≤ 1 → Code (source.Do action.Call (source.AnExp (source.Do (action.BuiltIn m) es) args)) c
+        → M (machine.Eval (source.Do action.Call (source.AnExp (source.Do (action.BuiltIn m) es) args)) env) k (Eval c vals) ck (move (machine.Eval (source.Do action.Call (source.AnExp (source.Do (action.BuiltIn m) es) args)) env) k)
+    value_called_follows m es args c makes few r =
+        let f = value_called m (r.0) (r.1) (length vals) (r.2) makes in
+        let callee : core.Exp = bind_all (r.0) (core.Functions (number_of (form_of m) (r.2)) (core.Name 0)) in
+        looked (source.Do action.Call (source.AnExp (source.Do (action.BuiltIn m) es) args)) (machine.Eval (source.Do (action.BuiltIn m) es) env) (Operands action.Call [] args env ∷ k) c (core.Do core.Call (AnExp callee (r.1))) (Eval callee vals) (Arguments core.Call [] (r.1) vals ∷ ck)
+        (r.6 ∙ f.0) refl refl refl
+        (AtCode b l (source.Do (action.BuiltIn m) es) env (Operands action.Call [] args env ∷ k) callee vals (Arguments core.Call [] (r.1) vals ∷ ck)
+        (code (source.Do (action.BuiltIn m) es) callee (
+          r.0,
+          r.2,
+          only_name program.groups b s es (r.0) few (r.3),
+          subst (λ i. HasGroups program.groups (r.2) (function_of (form_of m) (i + length vals) (levels_from (length vals) i) (r.2)).groups) (as_many_operands program.groups b s es (r.0) (r.3)) (subst (λ gs. HasGroups program.groups (r.2) gs) (f.1) (r.5)),
+          refl,
+          few,
+        ))
+        (InOperands b l held action.Call [] args env k [] (r.1) vals ck tt tt (record { places = places; code = r.4; names = names }) around))
+
     -- one that is a value
-    function_looks : (m : Member) (a : Action) (c : core.Exp) → alone m ≡ Some a → Code (source.Do (action.BuiltIn m) source.NoExp) c
-        → M (machine.Eval (source.Do (action.BuiltIn m) source.NoExp) env) k (Eval c vals) ck (move (machine.Eval (source.Do (action.BuiltIn m) source.NoExp) env) k)
-    function_looks m a c is r =
-        let f : ((function_of (form_of m) (0 + length vals) (length vals) (r.1)).exp ≡ core.Functions (r.1) (core.Name 0))
-        × (HasGroups program.groups (r.1) (function_of (form_of m) (0 + length vals) (length vals) (r.1)).groups → slice_get program.groups (r.1) ≡ Some (record { sees = 0 + length vals; bodies = function_body a ∷ [] })) =
-        member_form program.groups m a (0 + length vals) (length vals) (r.1) is in
+    function_looks : (m : Member) (es : Exps) (c : core.Exp) → count_of es ≤ 1 → Code (source.Do (action.BuiltIn m) es) c
+        → M (machine.Eval (source.Do (action.BuiltIn m) es) env) k (Eval c vals) ck (move (machine.Eval (source.Do (action.BuiltIn m) es) env) k)
+    function_looks m source.NoExp c few r =
         let z : 0 + length vals ≡ length vals = omega arith in
-        subst (λ x. M (machine.Eval (source.Do (action.BuiltIn m) source.NoExp) env) k (Eval x vals) ck (Moved (Ready (action.BuiltIn m) []) k))
-        (sym (r.4 ∙ (ap (λ ds. bind_all ds (function_of (form_of m) (0 + length vals) (length vals) (r.1)).exp) (r.2) ∙ f.0)))
-        (waits program context nodes (rank (machine.Eval (source.Do (action.BuiltIn m) source.NoExp) env) k) (owed k) held 0 held known world (Eval (core.Functions (r.1) (core.Name 0)) vals) ck store (Ready (action.BuiltIn m) []) k (omega arith) (omega arith) worlds
-        (AtFunction b l m a (r.1) k vals ck is (subst (λ i. slice_get program.groups (r.1) ≡ Some (record { sees = i; bodies = function_body a ∷ [] })) z (f.1 (r.3))) around))
+        let function : core.Exp = core.Functions (number_of (form_of m) (r.1)) (core.Name 0) in
+        subst (λ x. M (machine.Eval (source.Do (action.BuiltIn m) source.NoExp) env) k (Eval x vals) ck (Moved (Ready (action.BuiltIn m) []) k)) (sym (r.4 ∙ ap (λ ds. bind_all ds function) (r.2)))
+        (waits program context nodes (rank (machine.Eval (source.Do (action.BuiltIn m) source.NoExp) env) k) (owed k) held 0 held known world (Eval function vals) ck store (Ready (action.BuiltIn m) []) k (omega arith) (omega arith) worlds
+        (AtFunction m [] k (Eval function vals) ck (record {
+          b = b;
+          l = l;
+          n = r.1;
+          levels = [];
+          vals = vals;
+          weight = 0;
+          others = ck;
+          inside = tt;
+          there = subst (λ i. HasGroups program.groups (r.1) (function_of (form_of m) i [] (r.1)).groups) z (r.3);
+          path = There 0 (Eval function vals) ck;
+          light = omega arith;
+          around = around;
+        })))
+    function_looks m (source.AnExp e source.NoExp) c few r =
+        let z : suc 0 + length vals ≡ suc (length vals) = omega arith in
+        let d : ElaboratesNames program.groups b s (source.AnExp e source.NoExp) (r.0) = r.2 in
+        let function : core.Exp = core.Functions (number_of (form_of m) (r.1)) (core.Name 0) in
+        looked (source.Do (action.BuiltIn m) (source.AnExp e source.NoExp)) (machine.Eval e env) (Operands (action.BuiltIn m) [] source.NoExp env ∷ k) c (core.Do (Bind function) (one (d.0))) (Eval (d.0) vals) (Arguments (Bind function) [] NoExp vals ∷ ck)
+        (r.4 ∙ ap (λ ds. bind_all ds function) (d.4 ∙ ap (λ ds. AnExp (d.0) ds) (d.3))) refl refl refl
+        (AtCode b l e env (Operands (action.BuiltIn m) [] source.NoExp env ∷ k) (d.0) vals (Arguments (Bind function) [] NoExp vals ∷ ck) (code e (d.0) (d.2))
+        (InHolding b l held m [] env k (r.1) [] vals ck tt (subst (λ i. HasGroups program.groups (r.1) (function_of (form_of m) i (length vals ∷ []) (r.1)).groups) z (r.3)) around))
+    function_looks m (source.AnExp e (source.AnExp f es)) c few r = absurd (let z : suc (suc (count_of es)) ≤ 1 = few in let y : ⊥ = omega (arith, z) in y)
 
-    do_follows : (a : Action) (es : Exps) (c : core.Exp) → IsPlainCode (source.Do a es) → Code (source.Do a es) c → M (machine.Eval (source.Do a es) env) k (Eval c vals) ck (move (machine.Eval (source.Do a es) env) k)
-    do_follows (action.BuiltIn m) source.NoExp c p r = function_looks m (p.0) c (p.1) r
-    do_follows (action.BuiltIn m) (source.AnExp e es) c p r = absurd p
-    do_follows action.Call (source.AnExp (source.Do (action.BuiltIn m) es) args) c p r = callee_follows m (p.0) es args c (p.1) r
-    do_follows a es c p r = operands_follow a es c (plain b s a es c p r)
+    do_follows : (a : Action) (es : Exps) (c : core.Exp) → Code (source.Do a es) c → M (machine.Eval (source.Do a es) env) k (Eval c vals) ck (move (machine.Eval (source.Do a es) env) k)
+    do_follows (action.BuiltIn m) es c r = function_looks m es c (r.5) r
+    do_follows action.Call (source.AnExp (source.Do (action.BuiltIn m) es) args) c r = by (done_or_called m (count_of es) (r.7))
+      where
+        by : ((a : Action) × (row_of m ≡ Some a)) ⊎ (IsCalled m × (count_of es ≤ 1))
+            → M (machine.Eval (source.Do action.Call (source.AnExp (source.Do (action.BuiltIn m) es) args)) env) k (Eval c vals) ck (move (machine.Eval (source.Do action.Call (source.AnExp (source.Do (action.BuiltIn m) es) args)) env) k)
+        by (inl p) = callee_follows m (p.0) es args c (p.1) r
+        by (inr p) = value_called_follows m es args c (p.0) (p.1) r
+    do_follows a es c r = operands_follow a es c (plain b s a es c tt r)
 
-    looks_follow : (e : Exp) (c : core.Exp) → IsPlainCode e → Code e c → M (machine.Eval e env) k (Eval c vals) ck (move (machine.Eval e env) k)
-    looks_follow (source.Val v) c p r = literal_follows v c r
-    looks_follow (source.Name x) c p r =
+    looks_follow : (e : Exp) (c : core.Exp) → Code e c → M (machine.Eval e env) k (Eval c vals) ck (move (machine.Eval e env) k)
+    looks_follow (source.Val v) c r = literal_follows v c r
+    looks_follow (source.Name x) c r =
         subst (λ i. M (machine.Eval (source.Name x) env) k (Eval i vals) ck (found (environment.at env x) k)) (sym (r.1))
         (name_found b l x env k vals ck (place_or_nowhere (slice_get places x)) (environment.at env x) (r.0) around (names x))
-    looks_follow (source.Do a es) c p r = do_follows a es c p r
-    looks_follow (source.If x y z) c p r =
+    looks_follow (source.Do a es) c r = do_follows a es c r
+    looks_follow (source.If x y z) c r =
         looked (source.If x y z) (machine.Eval x env) (Choosing y z env ∷ k) c (core.Do (Choose primitive.Copy (r.1) (r.2)) (one (r.0))) (Eval (r.0) vals) (Arguments (Choose primitive.Copy (r.1) (r.2)) [] NoExp vals ∷ ck) (r.6) refl refl refl
         (AtCode b l x env (Choosing y z env ∷ k) (r.0) vals (Arguments (Choose primitive.Copy (r.1) (r.2)) [] NoExp vals ∷ ck) (code x (r.0) (r.3))
         (InChoosing b l held y z env k (r.1) (r.2) vals ck (code y (r.1) (r.4)) (code z (r.2) (r.5)) around))
-    looks_follow (source.Switch e NoCase) c p r = several e NoCase c (r.0) (r.1) (r.2) (r.3) (r.4)
-    looks_follow (source.Switch e (ACase q d (ACase q2 d2 cases))) c p r = several e (ACase q d (ACase q2 d2 cases)) c (r.0) (r.1) (r.2) (r.3) (r.4)
-    looks_follow (source.Switch e (ACase q d NoCase)) c p r =
+    looks_follow (source.Switch e NoCase) c r = several e NoCase c (r.0) (r.1) (r.2) (r.3) (r.4)
+    looks_follow (source.Switch e (ACase q d (ACase q2 d2 cases))) c r = several e (ACase q d (ACase q2 d2 cases)) c (r.0) (r.1) (r.2) (r.3) (r.4)
+    looks_follow (source.Switch e (ACase q d NoCase)) c r =
         looked (source.Switch e (ACase q d NoCase)) (machine.Eval e env) (Switching (ACase q d NoCase) env ∷ k) c (core.Do (Bind (around_all (on_nearest q s).checks fails (r.1))) (one (r.0))) (Eval (r.0) vals)
         (Arguments (Bind (around_all (on_nearest q s).checks fails (r.1))) [] NoExp vals ∷ ck) (r.4) refl refl refl
         (AtCode b l e env (Switching (ACase q d NoCase) env ∷ k) (r.0) vals (Arguments (Bind (around_all (on_nearest q s).checks fails (r.1))) [] NoExp vals ∷ ck) (code e (r.0) (r.2))
         (InLet b l held q d env k (around_all (on_nearest q s).checks fails (r.1)) vals ck (record { places = places; body = r.1; code = r.3; is = refl; names = names }) around))
-    looks_follow (source.Group fns d) c p r = tt
-    looks_follow (source.Frame n e) c p r = absurd r
-    looks_follow (source.Label e) c p r =
+    looks_follow (source.Group fns d) c r = tt
+    looks_follow (source.Frame n e) c r = absurd r
+    looks_follow (source.Label e) c r =
         subst (λ x. M (machine.Eval (source.Label e) env) k (Eval x vals) ck (move (machine.Eval (source.Label e) env) k)) (sym (r.2))
         (steps program context nodes 1 (rank (machine.Eval (source.Label e) env) k) (owed k) held 0 held known world (Eval (core.Label (r.0)) vals) ck (Eval (r.0) vals) (core_machine.Labelled ∷ ck) store (machine.Eval e env) (machine.Labelled ∷ k) refl refl (omega arith) worlds
         (AtCode b (with_label l) e env (machine.Labelled ∷ k) (r.0) vals (core_machine.Labelled ∷ ck) (record { places = places; code = r.1; names = names }) (InLabel b l held k ck around)))
-    looks_follow (source.While x d) c p r = tt
-    looks_follow (source.Repeat d x) c p r = tt
-    looks_follow (source.For q e d) c p r =
+    looks_follow (source.While x d) c r = tt
+    looks_follow (source.Repeat d x) c r = tt
+    looks_follow (source.For q e d) c r =
         looked (source.For q e d) (machine.Eval e env) (Going q d env ∷ k) c (core.Do (Bind (core.Label (core.Loop (turn_with turn)))) (one (r.0))) (Eval (r.0) vals) (Arguments (Bind (core.Label (core.Loop (turn_with turn)))) [] NoExp vals ∷ ck) (r.4) refl refl refl
         (AtCode b l e env (Going q d env ∷ k) (r.0) vals (Arguments (Bind (core.Label (core.Loop (turn_with turn)))) [] NoExp vals ∷ ck) (code e (r.0) (r.2))
         (InGoing b l held q d env k turn vals ck (record { places = places; body = r.1; code = r.3; is = refl; names = names }) around))
       where
         turn : core.Exp
         turn = around_all (on_nearest q (beside 1 s)).checks fails (r.1)
-    looks_follow (source.Try e q d) c p r =
+    looks_follow (source.Try e q d) c r =
         subst (λ x. M (machine.Eval (source.Try e q d) env) k (Eval x vals) ck (move (machine.Eval (source.Try e q d) env) k)) (sym (r.5))
         (steps program context nodes 1 (rank (machine.Eval (source.Try e q d) env) k) (owed k) held 0 held known world (Eval (core.Try (r.0) handler) vals) ck (Eval (r.0) vals) (core_machine.Trying handler vals ∷ ck) store (machine.Eval e env) (machine.Trying q d env ∷ k) refl refl (omega arith) worlds
         (AtCode true l e env (machine.Trying q d env ∷ k) (r.0) vals (core_machine.Trying handler vals ∷ ck) (record { places = places; code = subst (λ x. Elaborates program.groups x s e (r.0)) (r.2) (r.3); names = names })
@@ -255,7 +284,7 @@ module _ (program : Core) (context : Context) (nodes : ℕ) (held : ℕ) (known 
       where
         handler : core.Exp
         handler = around_all (on_nearest q s).checks fails (r.1)
-    looks_follow (source.Update o e f) c p r =
+    looks_follow (source.Update o e f) c r =
         looked (source.Update o e f) (machine.Eval e env) (Updating o f env ∷ k) c (core.Do (Bind (update_with o (r.1))) (one (r.0))) (Eval (r.0) vals) (Arguments (Bind (update_with o (r.1))) [] NoExp vals ∷ ck) (r.4) refl refl refl
         (AtCode b l e env (Updating o f env ∷ k) (r.0) vals (Arguments (Bind (update_with o (r.1))) [] NoExp vals ∷ ck) (code e (r.0) (r.2))
         (InUpdating b l held o f env k (r.1) vals ck (record { places = places; code = r.3; names = names }) around))
@@ -342,6 +371,23 @@ module _ (program : Core) (context : Context) (nodes : ℕ) (held : ℕ) (known 
       (AtCode x m g env (Operands action.Call (BuiltIn i holds ∷ (done ++ v ∷ [])) fs env ∷ j) (t.0) vals (Arguments (goal_at m a) (before ++ w ∷ []) (t.1) vals ∷ cj) (record { places = d.places; code = t.2; names = d.names })
       (InCalling x m held i a holds (done ++ v ∷ []) fs env j (before ++ w ∷ []) (t.1) vals cj row
       (subst (λ xs. EachBelongs known xs (before ++ w ∷ [])) (assoc (listed holds) done (v ∷ [])) (each_append known (listed holds ++ done) before v w e value)) (record { places = d.places; code = t.3; names = d.names }) r))
+  passes_follow b l v w k ck value (InHolding x m h i done env j n levels vals cj e d r) =
+      waits program context nodes (rank (machine.Give v) k) (owed k) held 0 held known world (Give w) ck store (Ready (action.BuiltIn i) (done ++ v ∷ [])) j (omega arith) (omega arith) worlds
+      (AtFunction i (done ++ v ∷ []) j (Give w) ck (record {
+        b = x;
+        l = m;
+        n = n;
+        levels = levels ++ length vals ∷ [];
+        vals = w ∷ vals;
+        weight = 1 + 0;
+        others = cj;
+        inside = held_more known vals v w levels done e value;
+        there = d;
+        path = step program context nodes world 1 0 (Give w) ck (Eval (core.Functions (number_of (form_of i) n) (core.Name 0)) (w ∷ vals)) cj refl (Eval (core.Functions (number_of (form_of i) n) (core.Name 0)) (w ∷ vals)) cj refl
+            (There 0 (Eval (core.Functions (number_of (form_of i) n) (core.Name 0)) (w ∷ vals)) cj);
+        light = omega arith;
+        around = r;
+      }))
   passes_follow b l v w k ck value (InChoosing x m h y z env j c d vals cj p q r) = tt
   passes_follow b l v w k ck value (InLet x m h p e env j c vals cj d r) = tt
   passes_follow b l v w k ck value (InSwitch x m h cs env j c vals cj d r) = tt
@@ -424,24 +470,30 @@ module _ (program : Core) (context : Context) (nodes : ℕ) (held : ℕ) (known 
   standing t k f more cf ck (Arrived (suc n)) state last =
       waits program context nodes (rank f more) (owed more) held 0 held known world cf ck store (machine.Give (leaf (part.Flag t))) (joinings n k) (omega arith) (omega arith) worlds (state (machine.Give (leaf (part.Flag t))) (joinings n k) (Arrived n))
 
-  pub moves_follow : (f : machine.Focus) (k : Stack) (cf : Focus) (ck : List Frame) → (state : StateBelongs program context nodes world known held f k cf ck) → IsPlain program context nodes world known held f k cf ck state → M f k cf ck (move f k)
-  moves_follow f k cf ck (AtCode b l e env j c vals cj code around) p = looks_follow b l env j vals cj around code.places code.names e c p code.code
-  moves_follow f k cf ck (AtWhile b l x y env j c d vals cj p q r) i = tt
-  moves_follow f k cf ck (AtRepeat b l y x env j d c vals cj p q r) i = tt
-  moves_follow f k cf ck (AtAction a vs j g cj r) i = tt
-  moves_follow f k cf ck (AtValue b l v w j cj value around) i = passes_follow b l v w j cj value around
-  moves_follow f k cf ck (AtEnd v w g cj value eq paid flat) i = (w, value, eq, paid)
-  moves_follow f k cf ck (AtBody b l p e env inner v j c d w vals vals' js cj a value pattern code around) i =
+  pub moves_follow : (f : machine.Focus) (k : Stack) (cf : Focus) (ck : List Frame) → StateBelongs program context nodes world known held f k cf ck → M f k cf ck (move f k)
+  moves_follow f k cf ck (AtCode b l e env j c vals cj code around) = looks_follow b l env j vals cj around code.places code.names e c code.code
+  moves_follow f k cf ck (AtWhile b l x y env j c d vals cj p q r) = tt
+  moves_follow f k cf ck (AtRepeat b l y x env j d c vals cj p q r) = tt
+  moves_follow f k cf ck (AtAction a vs j g cj r) = tt
+  moves_follow f k cf ck (AtValue b l v w j cj value around) = passes_follow b l v w j cj value around
+  moves_follow f k cf ck (AtEnd v w g cj value eq paid flat) = (w, value, eq, paid)
+  moves_follow f k cf ck (AtBody b l p e env inner v j c d w vals vals' js cj a value pattern code around) =
       waits program context nodes (rank f k) (owed k) held 0 held known world cf ck store (machine.Eval e inner) (Switching body_cases inner ∷ machine.Joining ∷ machine.Stepping p v e env ∷ j) (omega arith) (omega arith) worlds
       (AtCode b (with_own_label l) e inner (Switching body_cases inner ∷ machine.Joining ∷ machine.Stepping p v e env ∷ j) d vals' ck code (InBody b l held p e env inner v j c w vals js cj a value pattern around))
-  moves_follow f k cf ck (AtTurned b l p e env v j c w vals cj g more q value pattern around) i =
+  moves_follow f k cf ck (AtTurned b l p e env v j c w vals cj g more q value pattern around) =
       standing true (machine.Stepping p v e env ∷ j) g more _ _ q (λ g2 more2 q2. AtTurned b l p e env v j c w vals cj g2 more2 q2 value pattern around) refl
-  moves_follow f k cf ck (AtGoing b l p e env v j c w vals cj value pattern around) i = tt
-  moves_follow f k cf ck (AtLeft b l p e env v j cj g more q around) i = standing false (machine.Stepping p v e env ∷ j) g more _ _ q (λ g2 more2 q2. AtLeft b l p e env v j cj g2 more2 q2 around) refl
-  moves_follow f k cf ck (AtCallee b l m a es args env j later arguments vals cj row d e around) i = callee_looks b l m a es args env j later arguments vals cj row d e around
-  moves_follow f k cf ck (AtMaking m vs args env j g cj r) i = tt
-  moves_follow f k cf ck (AtMade m holds args env j g cj r) i = made_moves m holds args env j g cj r
-  moves_follow f k cf ck (AtApplied m a holds vs j g cj row r) i = tt
-  moves_follow f k cf ck (AtInner m a vs j g cj row r) i = tt
-  moves_follow f k cf ck (AtBack b l v w j cj value around) i = tt
-  moves_follow f k cf ck (AtFunction b l m a n j vals cj is there around) i = tt
+  moves_follow f k cf ck (AtGoing b l p e env v j c w vals cj value pattern around) = tt
+  moves_follow f k cf ck (AtLeft b l p e env v j cj g more q around) = standing false (machine.Stepping p v e env ∷ j) g more _ _ q (λ g2 more2 q2. AtLeft b l p e env v j cj g2 more2 q2 around) refl
+  moves_follow f k cf ck (AtCallee b l m a es args env j later arguments vals cj row d e around) = callee_looks b l m a es args env j later arguments vals cj row d e around
+  moves_follow f k cf ck (AtMaking m vs args env j g cj r) = tt
+  moves_follow f k cf ck (AtMade m holds args env j g cj r) = made_moves m holds args env j g cj r
+  moves_follow f k cf ck (AtApplied m a holds vs j g cj row r) = tt
+  moves_follow f k cf ck (AtInner m a vs j g cj row r) = tt
+  moves_follow f k cf ck (AtBack b l v w j cj value around) = tt
+  moves_follow f k cf ck (AtFunction m vs j g cj r) = tt
+  moves_follow f k cf ck (Later g j g2 more cg cj moves none falls owes deep state) =
+      subst (λ m. M g j cg cj m) (sym moves) (waits program context nodes (rank g j) (owed j) held 0 held known world cg cj store g2 more (omega (arith, owes)) falls worlds state)
+  moves_follow f k cf ck (LaterBy g j n g2 more cg cj moves goes falls owes deep state) = subst (λ m. M g j cg cj m) (sym moves) tt
+  moves_follow f k cf ck (AtRaising b l less w i c place cell j others g cj value eq depth fits around) = tt
+  moves_follow f k cf ck (AtWriting b l less w c place v cell u j others g cj value new eq depth fits around) = tt
+  moves_follow f k cf ck (AtWritten b l c place j others around) = tt

@@ -12,7 +12,7 @@ use Rattle.mo_machine.specs.Frames.{Stack}
 use Rattle.elaboration.specs.Meeting as meeting
 use Rattle.elaboration.specs.Meeting.{Comes, There}
 use Rattle.elaboration_values.specs.Belonging.{Known}
-use Rattle.elaboration_steps.specs.Stacks.{WorldBelongs, StateBelongs}
+use Rattle.elaboration_steps.specs.Stacks.{WorldBelongs, StateBelongs, Standing, Here}
 use Rattle.elaboration_steps.specs.Follows.{rank, owed, Leads, Waits, Plainly, Doing, Follows, Stops, Acts}
 
 pub nothing_more : {A : Type 0} (xs : List A) → xs ≡ xs ++ []
@@ -47,8 +47,7 @@ module _ (program : Core) (context : Context) (nodes : ℕ) where
     falls = λ e. absurd (let z : true ≡ false = e in cc);
     grows = r.grows;
     requests = r.requests;
-    worlds = r.worlds;
-    state = r.state;
+    stands = r.stands;
   }
 
   stops_ahead : (w spent total levels : ℕ) (world : World) (cf : Focus) (ck : List Frame) (cf1 : Focus) (ck1 : List Frame) (end : End Waiting)
@@ -82,8 +81,7 @@ module _ (program : Core) (context : Context) (nodes : ℕ) where
     falls = r.falls;
     grows = r.grows;
     requests = r.requests;
-    worlds = r.worlds;
-    state = r.state;
+    stands = r.stands;
   }
 
   stops_sooner : (a b total levels : ℕ) (world : World) (cf : Focus) (ck : List Frame) (end : End Waiting) → b ≤ a
@@ -139,10 +137,9 @@ module _ (program : Core) (context : Context) (nodes : ℕ) where
   -- ---- ends of ways
 
   -- Core stands there already
-  pub waits : (before spent total levels held' : ℕ) (known : List Known) (world : World) (cf : Focus) (ck : List Frame) (store : Store) (f : machine.Focus) (k : Stack)
-      → spent + held' ≤ total + owed k → suc (rank f k) ≤ before → WorldBelongs program.groups known context.globals store world → StateBelongs program context nodes world known held' f k cf ck
-      → Follows program context nodes before spent total levels [] known world cf ck store f k
-  waits before spent total levels held' known world cf ck store f k le fall worlds state = record {
+  pub waits_in : (before spent total levels held' : ℕ) (known : List Known) (world : World) (cf : Focus) (ck : List Frame) (store : Store) (f : machine.Focus) (k : Stack)
+      → spent + held' ≤ total + owed k → suc (rank f k) ≤ before → Standing program context nodes world known held' store f k cf ck → Follows program context nodes before spent total levels [] known world cf ck store f k
+  waits_in before spent total levels held' known world cf ck store f k le fall stands = record {
     moved = false;
     weight = 0;
     held' = held';
@@ -155,9 +152,14 @@ module _ (program : Core) (context : Context) (nodes : ℕ) where
     falls = λ e. fall;
     grows = ([], nothing_more known);
     requests = refl;
-    worlds = worlds;
-    state = state;
+    stands = stands;
   }
+
+  pub waits : (before spent total levels held' : ℕ) (known : List Known) (world : World) (cf : Focus) (ck : List Frame) (store : Store) (f : machine.Focus) (k : Stack)
+      → spent + held' ≤ total + owed k → suc (rank f k) ≤ before → WorldBelongs program.groups known context.globals store world → StateBelongs program context nodes world known held' f k cf ck
+      → Follows program context nodes before spent total levels [] known world cf ck store f k
+  waits before spent total levels held' known world cf ck store f k le fall worlds state =
+      waits_in before spent total levels held' known world cf ck store f k le fall (Here store f k cf ck worlds state)
 
   -- a step without an effect
   pub steps : (w before spent total levels held' : ℕ) (known : List Known) (world : World) (cf : Focus) (ck : List Frame) (cf1 : Focus) (ck1 : List Frame) (store : Store) (f : machine.Focus) (k : Stack)
@@ -177,8 +179,7 @@ module _ (program : Core) (context : Context) (nodes : ℕ) where
     falls = λ e. absurd (let z : true ≡ false = e in cc);
     grows = ([], nothing_more known);
     requests = refl;
-    worlds = worlds;
-    state = state;
+    stands = Here store f k cf1 ck1 worlds state;
   }
 
   -- a step with an effect
@@ -199,8 +200,7 @@ module _ (program : Core) (context : Context) (nodes : ℕ) where
     falls = λ e. absurd (let z : true ≡ false = e in cc);
     grows = grows;
     requests = requests;
-    worlds = worlds;
-    state = state;
+    stands = Here store f k cf1 ck1 worlds state;
   }
 
   -- it ends
@@ -210,11 +210,11 @@ module _ (program : Core) (context : Context) (nodes : ℕ) where
       record { moved = false; weight = 0; cost = cost; cf' = cf; ck' = ck; path = Waits 0 levels world cf ck; ends = eq; pays = omega (arith, le); light = lv }
 
   -- after a step, and others that leave the world as it is
-  pub does_then : (n before spent total levels held' : ℕ) (cost : Cost) (out : List Bytes) (known known' : List Known) (world world' : World) (cf : Focus) (ck : List Frame) (cf1 : Focus) (ck1 : List Frame) (cf2 : Focus) (ck2 : List Frame) (store : Store) (f : machine.Focus) (k : Stack)
+  pub does_then_in : (n before spent total levels held' : ℕ) (cost : Cost) (out : List Bytes) (known known' : List Known) (world world' : World) (cf : Focus) (ck : List Frame) (cf1 : Focus) (ck1 : List Frame) (cf2 : Focus) (ck2 : List Frame) (store : Store) (f : machine.Focus) (k : Stack)
       → focused program context nodes world cf ck ≡ Go cost out world' (at program context nodes cf1 ck1) → Comes program context nodes world' n cf1 ck1 cf2 ck2 → spent + (cost.weight + n) + held' ≤ total + owed k → cost.levels ≤ levels
-      → (more : List Known) × (known' ≡ known ++ more) → world'.requests ≡ world.requests → WorldBelongs program.groups known' context.globals store world' → StateBelongs program context nodes world' known' held' f k cf2 ck2
+      → (more : List Known) × (known' ≡ known ++ more) → world'.requests ≡ world.requests → Standing program context nodes world' known' held' store f k cf2 ck2
       → Follows program context nodes before spent total levels out known world cf ck store f k
-  does_then n before spent total levels held' cost out known known' world world' cf ck cf1 ck1 cf2 ck2 store f k eq path le lv grows requests worlds state = record {
+  does_then_in n before spent total levels held' cost out known known' world world' cf ck cf1 ck1 cf2 ck2 store f k eq path le lv grows requests stands = record {
     moved = true;
     weight = cost.weight + n;
     held' = held';
@@ -227,9 +227,15 @@ module _ (program : Core) (context : Context) (nodes : ℕ) where
     falls = λ e. absurd (let z : true ≡ false = e in cc);
     grows = grows;
     requests = requests;
-    worlds = worlds;
-    state = state;
+    stands = stands;
   }
+
+  pub does_then : (n before spent total levels held' : ℕ) (cost : Cost) (out : List Bytes) (known known' : List Known) (world world' : World) (cf : Focus) (ck : List Frame) (cf1 : Focus) (ck1 : List Frame) (cf2 : Focus) (ck2 : List Frame) (store : Store) (f : machine.Focus) (k : Stack)
+      → focused program context nodes world cf ck ≡ Go cost out world' (at program context nodes cf1 ck1) → Comes program context nodes world' n cf1 ck1 cf2 ck2 → spent + (cost.weight + n) + held' ≤ total + owed k → cost.levels ≤ levels
+      → (more : List Known) × (known' ≡ known ++ more) → world'.requests ≡ world.requests → WorldBelongs program.groups known' context.globals store world' → StateBelongs program context nodes world' known' held' f k cf2 ck2
+      → Follows program context nodes before spent total levels out known world cf ck store f k
+  does_then n before spent total levels held' cost out known known' world world' cf ck cf1 ck1 cf2 ck2 store f k eq path le lv grows requests worlds state =
+      does_then_in n before spent total levels held' cost out known known' world world' cf ck cf1 ck1 cf2 ck2 store f k eq path le lv grows requests (Here store f k cf2 ck2 worlds state)
 
   -- it ends after such steps
   pub stops_then : (n spent total levels : ℕ) (cost last : Cost) (world : World) (cf : Focus) (ck : List Frame) (cf1 : Focus) (ck1 : List Frame) (cf2 : Focus) (ck2 : List Frame) (end : End Waiting)

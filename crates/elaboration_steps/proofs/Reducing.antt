@@ -22,7 +22,7 @@ use Rattle.typed_tree.specs.Patterns.{Pat}
 use Rattle.typed_tree.specs.Language as source
 use Rattle.typed_tree.specs.Language.{Exp, Exps, Functions, While, Repeat}
 use Rattle.typed_tree.specs.Substitution.{count, group_nodes}
-use Rattle.mo_machine.specs.Values.{Value, Values, BuiltIn, NoValue, listed, gathered}
+use Rattle.mo_machine.specs.Values.{Value, Values, BuiltIn, listed, gathered}
 use Rattle.mo_machine.specs.Values as machine_value
 use Rattle.mo_machine.specs.Environments.{Environment, with_group}
 use Rattle.mo_machine.specs.Acts.{Store, Act, goes}
@@ -32,16 +32,19 @@ use Rattle.mo_machine.specs.Jumps.{on_stack}
 use Rattle.mo_machine.specs.Reductions.{reduces}
 use Rattle.elaboration.specs.Scopes.{Place, under, nothing}
 use Rattle.elaboration.specs.Elaboration.{break_with, if_true, next_of}
+use Rattle.elaboration.specs.Members.{form_of, number_of}
 use Rattle.elaboration.specs.Meeting.{There}
 use Rattle.elaboration.proofs.Coming.{step}
 use Rattle.elaboration_forms.specs.Elaborates.{Elaborates, ElaboratesFunctions}
 use Rattle.elaboration_values.specs.Belonging.{Known, OfFunctions, OfMember, code_in, Belongs, EachBelongs, EnvironmentBelongs}
-use Rattle.elaboration_steps.specs.Stacks.{Labels, with_own_label, row_of, alone, spare, function_body, scope, while_of, repeat_of, turn_with, Passing, Written, Arrived, Coded, CodedBeside, CodedPattern, WorldBelongs, StateBelongs, AtCode, AtWhile, AtRepeat, AtAction, AtValue, AtEnd, AtBody, AtTurned, AtGoing, AtLeft, AtCallee, AtMaking, AtMade, AtApplied, AtInner, AtBack, AtFunction, Acting, Calling, Applied, Around, InTesting, InRepeating}
-use Rattle.elaboration_steps.specs.Follows.{further, rank, owed, lacking, Suits, Acts}
+use Rattle.elaboration_steps.specs.Stacks.{Labels, with_own_label, row_of, spare, scope, while_of, repeat_of, turn_with, Passing, Written, Arrived, Coded, CodedBeside, CodedPattern, WorldBelongs, StateBelongs, AtCode, AtWhile, AtRepeat, AtAction, AtValue, AtEnd, AtBody, AtTurned, AtGoing, AtLeft, AtCallee, AtMaking, AtMade, AtApplied, AtInner, AtBack, AtFunction, Later, LaterBy, AtRaising, AtWriting, AtWritten, HeldAt, Holding, Acting, Calling, Applied, Around, InTesting, InRepeating}
+use Rattle.elaboration_steps.specs.Follows.{further, rank, owed, Suits, Acts}
 use Rattle.elaboration_steps.proofs.Acting.{act_follows, inner_follows}
+use Rattle.elaboration_steps.proofs.Characters.{raises, writes, gives_character}
 use Rattle.elaboration_steps.proofs.Groups.{last_stands, with_members, as_many_bodies, same_nodes, group_names, world_grows}
-use Rattle.elaboration_steps.proofs.Growth.{names_stay, stack_stays}
+use Rattle.elaboration_steps.proofs.Growth.{names_stay, member_stays, stack_stays}
 use Rattle.elaboration_steps.proofs.Matching.{coded}
+use Rattle.elaboration_steps.proofs.Members.{own_there}
 use Rattle.elaboration_steps.proofs.Paths.{waits, steps, does, does_then, acts_ahead, acts_behind}
 use Rattle.elaboration_steps.proofs.Rows.{some_action, member_acts}
 use Rattle.elaboration_steps.proofs.Taking.{turn_stack, takes_follow, going_follows}
@@ -53,20 +56,6 @@ ready a vs = omega arith
 listed_all : (vs : List Value) → listed (gathered vs) ≡ vs
 listed_all [] = refl
 listed_all (v ∷ vs) = ap (λ xs. v ∷ xs) (listed_all vs)
-
--- it needs nothing else
-lacks_nothing : (m : Member) (a : Action) (vs : List Value) → row_of m ≡ Some a → lacking (Ready a vs) ≡ 0
-lacks_nothing member.DebugPrint a vs e = ap (λ x. lacking (Ready x vs)) (sym (some_action action.Print a e))
-lacks_nothing member.DebugTrap a vs e = ap (λ x. lacking (Ready x vs)) (sym (some_action (action.Operate op.Trap) a e))
-lacks_nothing member.ErrorReject a vs e = ap (λ x. lacking (Ready x vs)) (sym (some_action (action.Operate op.RejectError) a e))
-lacks_nothing member.ErrorMessage a vs e = ap (λ x. lacking (Ready x vs)) (sym (some_action (action.Operate op.Message) a e))
-lacks_nothing member.ErrorCode a vs e = ap (λ x. lacking (Ready x vs)) (sym (some_action (action.Operate op.Code) a e))
-lacks_nothing member.NatToText a vs e = ap (λ x. lacking (Ready x vs)) (sym (some_action (action.Operate (op.ToText kind.Nat)) a e))
-lacks_nothing member.IntToText a vs e = ap (λ x. lacking (Ready x vs)) (sym (some_action (action.Operate (op.ToText kind.Int)) a e))
-lacks_nothing member.PrincipalFromActor a vs e = ap (λ x. lacking (Ready x vs)) (sym (some_action (action.Operate op.PrincipalOf) a e))
-lacks_nothing member.ArraySize a vs e = ap (λ x. lacking (Ready x vs)) (sym (some_action (action.Operate op.ArraySize) a e))
-lacks_nothing member.TextSize a vs e = ap (λ x. lacking (Ready x vs)) (sym (some_action (action.Operate op.TextSize) a e))
-lacks_nothing _ a vs e = absurd (let z : None ≡ Some a = e in cc)
 
 further_of_row : (m : Member) (a : Action) (vs : List Value) → row_of m ≡ Some a → further (Ready a vs) ≡ 1
 further_of_row member.DebugPrint a vs e = ap (λ x. further (Ready x vs)) (sym (some_action action.Print a e))
@@ -181,10 +170,10 @@ module _ (program : Core) (context : Context) (nodes : ℕ) (held : ℕ) (known 
 
   -- the action that is due
   acting : (a : Action) (vs : List Value) (k : Stack) (cf : Focus) (ck : List Frame) → Acting program context nodes world known held a vs k cf ck → Suits known (Ready a vs) k
-      → Acts program context nodes (rank (Ready a vs) k) (held + lacking (Ready a vs)) known world store k 0 cf ck (reduces context.head None store (Ready a vs) k)
+      → Acts program context nodes (rank (Ready a vs) k) held known world store k 0 cf ck (reduces context.head None store (Ready a vs) k)
   acting a vs k cf ck r suits =
-      acts_behind program context nodes (rank (Ready a vs) k) (held + lacking (Ready a vs)) known world store k r.weight 0 cf ck r.f' r.ck' _ r.path
-      (act_follows program context nodes (rank (Ready a vs) k) (held + lacking (Ready a vs)) known world store k worlds_belong (0 + r.weight) r.f' r.ck' r.b r.l r.less r.others r.around r.vals (let z : 1 ≤ further (Ready a vs) = ready a vs in omega (arith, z)) a vs r.values r.may r.arguments r.level suits r.acts
+      acts_behind program context nodes (rank (Ready a vs) k) held known world store k r.weight 0 cf ck r.f' r.ck' _ r.path
+      (act_follows program context nodes (rank (Ready a vs) k) held known world store k worlds_belong (0 + r.weight) r.f' r.ck' r.b r.l r.less r.others r.around r.vals (let z : 1 ≤ further (Ready a vs) = ready a vs in omega (arith, z)) a vs r.values r.may r.arguments r.level suits r.acts
       (let h : r.weight + r.less ≤ held + spare a = r.paid in omega (arith, h)))
 
   -- the value behind the body of a `for`, and that behind the last element
@@ -208,9 +197,9 @@ module _ (program : Core) (context : Context) (nodes : ℕ) (held : ℕ) (known 
 
   -- a built-in function that is called at once: what it holds is put together, it is entered, and left
   member_made : (m : Member) (vs : List Value) (args : Exps) (env : Environment) (k : Stack) (cf : Focus) (ck : List Frame) → Calling program context nodes world known held m vs args env k cf ck
-      → Acts program context nodes (rank (Ready (action.BuiltIn m) vs) (Operands action.Call [] args env ∷ k)) (held + 0) known world store (Operands action.Call [] args env ∷ k) 0 cf ck (reduces context.head None store (Ready (action.BuiltIn m) vs) (Operands action.Call [] args env ∷ k))
+      → Acts program context nodes (rank (Ready (action.BuiltIn m) vs) (Operands action.Call [] args env ∷ k)) held known world store (Operands action.Call [] args env ∷ k) 0 cf ck (reduces context.head None store (Ready (action.BuiltIn m) vs) (Operands action.Call [] args env ∷ k))
   member_made m vs args env k cf ck r =
-      waits program context nodes (rank (Ready (action.BuiltIn m) vs) (Operands action.Call [] args env ∷ k)) (0 + owed (Operands action.Call [] args env ∷ k)) (2 * (2 + length (machine_value.shapes_list vs)) + (held + 0)) 0 held known world cf ck store
+      waits program context nodes (rank (Ready (action.BuiltIn m) vs) (Operands action.Call [] args env ∷ k)) (0 + owed (Operands action.Call [] args env ∷ k)) (2 * (2 + length (machine_value.shapes_list vs)) + held) 0 held known world cf ck store
       (machine.Give (BuiltIn m (gathered vs))) (Operands action.Call [] args env ∷ k) (omega arith) (omega arith) worlds_belong
       (AtMade m (gathered vs) args env k cf ck (record {
         b = r.b;
@@ -229,80 +218,78 @@ module _ (program : Core) (context : Context) (nodes : ℕ) (held : ℕ) (known 
       }))
 
   member_applied : (m : Member) (a : Action) (holds : Values) (vs : List Value) (k : Stack) (cf : Focus) (ck : List Frame) → row_of m ≡ Some a → Applied program context nodes world known held a (listed holds ++ vs) k cf ck
-      → Acts program context nodes (rank (Ready action.Call (BuiltIn m holds ∷ vs)) k) (held + 0) known world store k 0 cf ck (reduces context.head None store (Ready action.Call (BuiltIn m holds ∷ vs)) k)
+      → Acts program context nodes (rank (Ready action.Call (BuiltIn m holds ∷ vs)) k) held known world store k 0 cf ck (reduces context.head None store (Ready action.Call (BuiltIn m holds ∷ vs)) k)
   member_applied m a holds vs k cf ck row r =
-      member_acts store (λ t. Acts program context nodes (rank (Ready action.Call (BuiltIn m holds ∷ vs)) k) (held + 0) known world store k 0 cf ck (on_stack store t k)) m a (listed holds) vs row tt
-      (waits program context nodes (rank (Ready action.Call (BuiltIn m holds ∷ vs)) k) (0 + owed k) (2 * 1 + (held + 0)) 0 held known world cf ck store (Ready a (listed holds ++ vs)) (Returning 0 ∷ k) (omega arith)
+      member_acts store (λ t. Acts program context nodes (rank (Ready action.Call (BuiltIn m holds ∷ vs)) k) held known world store k 0 cf ck (on_stack store t k)) m a (listed holds) vs row tt
+      (waits program context nodes (rank (Ready action.Call (BuiltIn m holds ∷ vs)) k) (0 + owed k) (2 * 1 + held) 0 held known world cf ck store (Ready a (listed holds ++ vs)) (Returning 0 ∷ k) (omega arith)
       (let z : further (Ready a (listed holds ++ vs)) ≡ 1 = further_of_row m a (listed holds ++ vs) row in omega (arith, z)) worlds_belong
       (AtInner m a (listed holds ++ vs) k cf ck row r))
 
   member_inner : (m : Member) (a : Action) (vs : List Value) (k : Stack) (cf : Focus) (ck : List Frame) → row_of m ≡ Some a → Applied program context nodes world known held a vs k cf ck → Suits known (Ready a vs) (Returning 0 ∷ k)
-      → Acts program context nodes (rank (Ready a vs) (Returning 0 ∷ k)) (held + lacking (Ready a vs)) known world store (Returning 0 ∷ k) 0 cf ck (reduces context.head None store (Ready a vs) (Returning 0 ∷ k))
+      → Acts program context nodes (rank (Ready a vs) (Returning 0 ∷ k)) held known world store (Returning 0 ∷ k) 0 cf ck (reduces context.head None store (Ready a vs) (Returning 0 ∷ k))
   member_inner m a vs k cf ck row r suits =
-      inner_follows program context nodes (rank (Ready a vs) (Returning 0 ∷ k)) (held + lacking (Ready a vs)) known world store (Returning 0 ∷ k) worlds_belong 0 cf ck held r.others
-      (λ world' v w x. AtBack r.b r.l v w k r.others x r.around) r.vals (let z : lacking (Ready a vs) ≡ 0 = lacks_nothing m a vs row in omega (arith, z)) r.l m a vs r.values row r.belongs suits r.acts
+      inner_follows program context nodes (rank (Ready a vs) (Returning 0 ∷ k)) held known world store (Returning 0 ∷ k) worlds_belong 0 cf ck held r.others
+      (λ world' v w x. AtBack r.b r.l v w k r.others x r.around) r.vals (omega arith) r.l m a vs r.values row r.belongs suits r.acts
 
   member_back : (b : Bool) (l : Labels) (v : Value) (w : core_value.Value) (k : Stack) (ck : List Frame) → Belongs known v w → Around program context nodes world known b l held k ck
-      → Acts program context nodes (rank (machine.Give v) (Returning 0 ∷ k)) (held + 0) known world store (Returning 0 ∷ k) 0 (core_machine.Give w) ck (reduces context.head None store (machine.Give v) (Returning 0 ∷ k))
+      → Acts program context nodes (rank (machine.Give v) (Returning 0 ∷ k)) held known world store (Returning 0 ∷ k) 0 (core_machine.Give w) ck (reduces context.head None store (machine.Give v) (Returning 0 ∷ k))
   member_back b l v w k ck value around =
-      waits program context nodes (rank (machine.Give v) (Returning 0 ∷ k)) (0 + owed (Returning 0 ∷ k)) (2 * 1 + (held + 0)) 0 held known world (core_machine.Give w) ck store (machine.Give v) k (omega arith) (omega arith) worlds_belong
+      waits program context nodes (rank (machine.Give v) (Returning 0 ∷ k)) (0 + owed (Returning 0 ∷ k)) (2 * 1 + held) 0 held known world (core_machine.Give w) ck store (machine.Give v) k (omega arith) (omega arith) worlds_belong
       (AtValue b l v w k ck value around)
 
   -- a built-in function is made
-  function_made : (b : Bool) (l : Labels) (m : Member) (a : Action) (n : ℕ) (k : Stack) (vals : List core_value.Value) (ck : List Frame) → alone m ≡ Some a → slice_get program.groups n ≡ Some (record { sees = length vals; bodies = function_body a ∷ [] })
-      → Around program context nodes world known b l held k ck
-      → Acts program context nodes (rank (Ready (action.BuiltIn m) []) k) (held + 0) known world store k 0 (Eval (core.Functions n (core.Name 0)) vals) ck (reduces context.head None store (Ready (action.BuiltIn m) []) k)
-  function_made b l m a n k vals ck is there around =
-      does_then program context nodes 0 (rank (Ready (action.BuiltIn m) []) k) (0 + owed k) (2 * (2 + 0) + (held + 0)) 0 held (weighing (1 + (0 + 0))) [] known (known ++ OfMember m NoValue ∷ []) world (worlds.with_group world n vals) _ ck
-      (Eval (core.Name 0) (function ∷ vals)) ck (core_machine.Give function) ck store (machine.Give (BuiltIn m NoValue)) k
-      (ap (λ o. on_some (stuck program context nodes world) o (λ i. grouped program context nodes world n (core.Name 0) vals ck i.bodies)) there)
-      (step program context nodes (worlds.with_group world n vals) 0 0 (Eval (core.Name 0) (function ∷ vals)) ck (core_machine.Give function) ck refl (core_machine.Give function) ck refl (There 0 (core_machine.Give function) ck))
-      (omega arith) (omega arith) (OfMember m NoValue ∷ [], refl) refl
-      (world_grows program.groups known context.globals (OfMember m NoValue) store world n vals worlds_belong (record { a = a; is = is; empty = refl; there = there }))
-      (AtValue b l (BuiltIn m NoValue) function k ck (ap (λ o. code_in o 0) here) (stack_stays program.groups known (OfMember m NoValue ∷ []) context.globals nodes b l held k ck around))
+  function_made : (m : Member) (vs : List Value) (k : Stack) (cf : Focus) (ck : List Frame) → Holding program context nodes world known held m vs k cf ck
+      → Acts program context nodes (rank (Ready (action.BuiltIn m) vs) k) held known world store k 0 cf ck (reduces context.head None store (Ready (action.BuiltIn m) vs) k)
+  function_made m vs k cf ck r =
+      acts_behind program context nodes (rank (Ready (action.BuiltIn m) vs) k) held known world store k r.weight 0 cf ck (Eval (core.Functions number (core.Name 0)) r.vals) r.others (reduces context.head None store (Ready (action.BuiltIn m) vs) k) r.path
+      (does_then program context nodes 0 (rank (Ready (action.BuiltIn m) vs) k) (0 + r.weight + owed k) (2 * (2 + length (machine_value.shapes_list vs)) + held) 0 held (weighing (1 + (0 + 0))) [] known (known ++ OfMember m (gathered vs) ∷ []) world (worlds.with_group world number r.vals)
+      (Eval (core.Functions number (core.Name 0)) r.vals) r.others (Eval (core.Name 0) (function ∷ r.vals)) r.others (core_machine.Give function) r.others store (machine.Give (BuiltIn m (gathered vs))) k
+      (ap (λ o. on_some (stuck program context nodes world) o (λ i. grouped program context nodes world number (core.Name 0) r.vals r.others i.bodies)) (own_there program.groups (form_of m) (length r.vals) r.levels r.n r.there))
+      (step program context nodes (worlds.with_group world number r.vals) 0 0 (Eval (core.Name 0) (function ∷ r.vals)) r.others (core_machine.Give function) r.others refl (core_machine.Give function) r.others refl (There 0 (core_machine.Give function) r.others))
+      (let h : r.weight ≤ 1 = r.light in omega (arith, h)) (omega arith) (OfMember m (gathered vs) ∷ [], refl) refl
+      (world_grows program.groups known context.globals (OfMember m (gathered vs)) store world number r.vals worlds_belong
+      (member_stays program.groups known (OfMember m (gathered vs) ∷ []) context.globals m (gathered vs) (record { code = number; seen = r.vals })
+      (record { n = r.n; levels = r.levels; held = subst (λ vs. HeldAt known r.vals r.levels vs) (sym (listed_all vs)) r.inside; there = r.there; code = refl })))
+      (AtValue r.b r.l (BuiltIn m (gathered vs)) function k r.others (ap (λ o. code_in o 0) here) (stack_stays program.groups known (OfMember m (gathered vs) ∷ []) context.globals nodes r.b r.l held k r.others r.around)))
     where
+      number : ℕ
+      number = number_of (form_of m) r.n
+
       function : core_value.Value
       function = Function (record { group = length world.groups; member = 0 })
 
-      here : slice_get (known ++ OfMember m NoValue ∷ []) (length world.groups) ≡ Some (OfMember m NoValue)
-      here = subst (λ i. slice_get (known ++ OfMember m NoValue ∷ []) i ≡ Some (OfMember m NoValue)) (sym worlds_belong.groups.as_many) (last_stands known (OfMember m NoValue))
-
-  nothing_lacks : held ≡ held + 0
-  nothing_lacks = omega arith
-
-  lacks_none : (t : Bool) (k : Stack) (cf : Focus) (ck : List Frame) (f : machine.Focus) (more : Stack) → Passing t k f more → Acts program context nodes (rank f more) held known world store more 0 cf ck (reduces context.head None store f more)
-      → Acts program context nodes (rank f more) (held + lacking f) known world store more 0 cf ck (reduces context.head None store f more)
-  lacks_none t k cf ck f more (Written n env) r =
-      subst (λ i. Acts program context nodes (rank f more) i known world store more 0 cf ck (reduces context.head None store f more)) nothing_lacks r
-  lacks_none t k cf ck f more (Arrived n) r =
-      subst (λ i. Acts program context nodes (rank f more) i known world store more 0 cf ck (reduces context.head None store f more)) nothing_lacks r
+      here : slice_get (known ++ OfMember m (gathered vs) ∷ []) (length world.groups) ≡ Some (OfMember m (gathered vs))
+      here = subst (λ i. slice_get (known ++ OfMember m (gathered vs) ∷ []) i ≡ Some (OfMember m (gathered vs))) (sym worlds_belong.groups.as_many) (last_stands known (OfMember m (gathered vs)))
 
   pub reduces_follow : (f : machine.Focus) (k : Stack) (cf : Focus) (ck : List Frame) → StateBelongs program context nodes world known held f k cf ck → Suits known f k
-      → Acts program context nodes (rank f k) (held + lacking f) known world store k 0 cf ck (reduces context.head None store f k)
+      → Acts program context nodes (rank f k) held known world store k 0 cf ck (reduces context.head None store f k)
   reduces_follow f k cf ck (AtCode b l e env j c vals cj code around) suits =
-      subst (λ n. Acts program context nodes (rank (machine.Eval e env) j) n known world store j 0 (Eval c vals) cj (reduces context.head None store (machine.Eval e env) j)) nothing_lacks
       (eval_follows b l j cj around env vals e c code)
   reduces_follow f k cf ck (AtWhile b l x y env j c d vals cj p q r) suits =
-      subst (λ n. Acts program context nodes (rank (machine.Eval (While x y) env) j) n known world store j 0 (Eval (while_of c d) vals) (Looping (while_of c d) vals ∷ core_machine.Labelled ∷ cj) (reduces context.head None store (machine.Eval (While x y) env) j)) nothing_lacks
       (tests b l j cj r env vals (machine.Eval (While x y) env) x y c d 0 p q (omega arith))
   reduces_follow f k cf ck (AtRepeat b l y x env j d c vals cj p q r) suits =
-      subst (λ n. Acts program context nodes (rank (machine.Eval (Repeat y x) env) j) n known world store j 0 (Eval (repeat_of d c) vals) (Looping (repeat_of d c) vals ∷ core_machine.Labelled ∷ cj) (reduces context.head None store (machine.Eval (Repeat y x) env) j)) nothing_lacks
       (repeats b l j cj r env vals (machine.Eval (Repeat y x) env) y x d c 0 p q (omega arith))
   reduces_follow f k cf ck (AtAction a vs j g cj r) suits = acting a vs j g cj r suits
   reduces_follow f k cf ck (AtValue b l v w j cj value around) suits =
-      subst (λ n. Acts program context nodes (rank (machine.Give v) j) n known world store j 0 (core_machine.Give w) cj (reduces context.head None store (machine.Give v) j)) nothing_lacks
       (takes_follow program context nodes held known world store worlds_belong v w value b l j cj around suits)
   reduces_follow f k cf ck (AtEnd v w g cj value eq paid flat) suits = tt
   reduces_follow f k cf ck (AtBody b l p e env inner v j c d w vals vals' js cj a value pattern code around) suits = tt
-  reduces_follow f k cf ck (AtTurned b l p e env v j c w vals cj g more q value pattern around) suits = lacks_none true (Stepping p v e env ∷ j) _ _ g more q (turned b l p e env v j c w vals cj g more q value pattern around)
+  reduces_follow f k cf ck (AtTurned b l p e env v j c w vals cj g more q value pattern around) suits = turned b l p e env v j c w vals cj g more q value pattern around
   reduces_follow f k cf ck (AtGoing b l p e env v j c w vals cj value pattern around) suits =
-      subst (λ n. Acts program context nodes (rank (machine.Give v) (Going p e env ∷ j)) n known world store (Going p e env ∷ j) 0 (Eval (next_of (core.Name 0)) (w ∷ vals)) (turn_stack c w vals cj) (reduces context.head None store (machine.Give v) (Going p e env ∷ j))) nothing_lacks
       (going_follows program context nodes held known world store worlds_belong v w value b l p e env j c vals cj pattern around)
-  reduces_follow f k cf ck (AtLeft b l p e env v j cj g more q around) suits = lacks_none false (Stepping p v e env ∷ j) _ _ g more q (left_behind b l p e env v j cj g more q around)
+  reduces_follow f k cf ck (AtLeft b l p e env v j cj g more q around) suits = left_behind b l p e env v j cj g more q around
   reduces_follow f k cf ck (AtCallee b l m a es args env j later arguments vals cj row d e around) suits = tt
   reduces_follow f k cf ck (AtMaking m vs args env j g cj r) suits = member_made m vs args env j g cj r
   reduces_follow f k cf ck (AtMade m holds args env j g cj r) suits = tt
   reduces_follow f k cf ck (AtApplied m a holds vs j g cj row r) suits = member_applied m a holds vs j g cj row r
   reduces_follow f k cf ck (AtInner m a vs j g cj row r) suits = member_inner m a vs j g cj row r suits
   reduces_follow f k cf ck (AtBack b l v w j cj value around) suits = member_back b l v w j cj value around
-  reduces_follow f k cf ck (AtFunction b l m a n j vals cj is there around) suits = function_made b l m a n j vals cj is there around
+  reduces_follow f k cf ck (AtFunction m vs j g cj r) suits = function_made m vs j g cj r
+  reduces_follow f k cf ck (Later g j g2 more cg cj moves none falls owes deep state) suits = subst (λ a. Acts program context nodes (rank g j) held known world store j 0 cg cj a) (sym (none store)) tt
+  reduces_follow f k cf ck (LaterBy g j n g2 more cg cj moves goes falls owes deep state) suits =
+      subst (λ a. Acts program context nodes (rank g j) held known world store j 0 cg cj a) (sym (goes store)) (waits program context nodes (rank g j) (0 + owed j) (2 * n + held) 0 held known world cg cj store g2 more (omega (arith, owes)) falls worlds_belong state)
+  reduces_follow f k cf ck (AtRaising b l less w i c place cell j others g cj value eq depth fits around) suits =
+      raises program context nodes held known world store worlds_belong b l less c place cell j others g cj value depth around w i eq fits
+  reduces_follow f k cf ck (AtWriting b l less w c place v cell u j others g cj value new eq depth fits around) suits =
+      writes program context nodes held known world store worlds_belong b l less c place cell j others g cj value depth around w v u new eq fits
+  reduces_follow f k cf ck (AtWritten b l c place j others around) suits = gives_character program context nodes held known world store worlds_belong b l c place j others around

@@ -44,7 +44,7 @@ use Rattle.elaboration.proofs.Coming.{reads_new, reads_more, step, pop}
 use Rattle.elaboration_forms.specs.Elaborates.{Elaborates, ElaboratesCases}
 use Rattle.elaboration_values.specs.Belonging.{Known, Names, Belongs, AlikeFound}
 use Rattle.elaboration_values.proofs.Belong.{patterns}
-use Rattle.elaboration_steps.specs.Stacks.{Labels, with_own_label, scope, while_of, repeat_of, update_with, turn_with, Coded, CodedBeside, CodedPattern, CodedTurn, Written, WorldBelongs, AtCode, AtWhile, AtRepeat, AtAction, AtValue, AtEnd, AtBody, AtTurned, AtLeft, Around, Bottom, InFunction, InOperands, InMaking, InCalling, InChoosing, InLet, InSwitch, InLabel, InTesting, InTurning, InRepeating, InRetesting, InTry, InUpdating, InGoing, InTurn, InBody, InBranch, InCase}
+use Rattle.elaboration_steps.specs.Stacks.{Labels, with_own_label, scope, while_of, repeat_of, update_with, turn_with, Coded, CodedBeside, CodedPattern, CodedTurn, Written, WorldBelongs, AtCode, AtWhile, AtRepeat, AtAction, AtValue, AtEnd, AtBody, AtTurned, AtLeft, Around, Bottom, InFunction, InOperands, InMaking, InCalling, InHolding, InChoosing, InLet, InSwitch, InLabel, InTesting, InTurning, InRepeating, InRetesting, InTry, InUpdating, InGoing, InTurn, InBody, InBranch, InCase}
 use Rattle.elaboration_steps.specs.Follows.{rank, owed, Suits, Acts}
 use Rattle.elaboration_steps.proofs.Matching.{one_more, on_both, names_more, coded, pattern_lands, pattern_follows, cases_follow}
 use Rattle.elaboration_steps.proofs.Paths.{nothing_more, waits, steps, does, acts_ahead, acts_behind}
@@ -147,6 +147,7 @@ module _ (program : Core) (context : Context) (nodes : ℕ) (held : ℕ) (known 
     takes_follow b l k ck (InCalling x m h i a holds done rest env j before later vals cj row e d r) suits = tt
     takes_follow b l k ck (InBranch x m h j joins cj i r) suits = tt
     takes_follow b l k ck (InCase x m h less j vals skips cj i paid r) suits = tt
+    takes_follow b l k ck (InHolding x m h i done env j n levels vals cj e d r) suits = tt
     takes_follow b l k ck (InChoosing x m h y z env j c d vals cj p q r) suits =
         by_flag known (λ t. A k 0 (Give w) ck (on_stack store t j)) v w (goes store (machine.Eval y env) (Joining ∷ [])) (goes store (machine.Eval z env) (Joining ∷ [])) value tt
         (λ e. branch y c true p (choice true c d vals cj e)) (λ e. branch z d false q (choice false c d vals cj e))

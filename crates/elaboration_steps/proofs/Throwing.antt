@@ -16,7 +16,7 @@ use Rattle.mo_machine.specs.Measure.{left_on}
 use Rattle.mo_machine.specs.Jumps.{throw}
 use Rattle.elaboration.specs.Meeting.{Joins, There}
 use Rattle.elaboration_values.specs.Belonging.{Known, Belongs}
-use Rattle.elaboration_steps.specs.Stacks.{Passed, Labels, turn_with, WorldBelongs, AtAction, Around, Bottom, InOperands, InMaking, InCalling, InChoosing, InLet, InSwitch, InLabel, InTesting, InTurning, InRepeating, InRetesting, InTry, InUpdating, InGoing, InTurn, InBody, InBranch, InCase}
+use Rattle.elaboration_steps.specs.Stacks.{Passed, Labels, turn_with, WorldBelongs, AtAction, Around, Bottom, InOperands, InMaking, InCalling, InHolding, InChoosing, InLet, InSwitch, InLabel, InTesting, InTurning, InRepeating, InRetesting, InTry, InUpdating, InGoing, InTurn, InBody, InBranch, InCase}
 use Rattle.elaboration_steps.specs.Follows.{owed, HandlerMeets, Acts}
 use Rattle.elaboration_steps.proofs.Levels.{joins_level, skips_level}
 use Rattle.elaboration_steps.proofs.Matching.{pattern_follows}
@@ -79,6 +79,7 @@ module _ (program : Core) (context : Context) (nodes : ℕ) (before held : ℕ) 
   throws l less k ck (InOperands x m h a done rest env j bs later vals cj g e d r) meets eq le q low deep = throws m h j cj r meets eq le q (omega (arith, low)) deep
   throws l less k ck (InMaking x m h i a done rest args env j bs later arguments vals cj row e d f r) meets eq le q low deep = throws m h j cj r meets eq le q (omega (arith, low)) deep
   throws l less k ck (InCalling x m h i a holds done rest env j bs later vals cj row e d r) meets eq le q low deep = throws m h j cj r meets eq le q (omega (arith, low)) deep
+  throws l less k ck (InHolding x m h i done env j n levels vals cj e d r) meets eq le q low deep = throws m h j cj r meets eq le q (omega (arith, low)) deep
   throws l less k ck (InChoosing x m h y z env j c d vals cj p i r) meets eq le q low deep = throws m h j cj r meets eq le q (omega (arith, low)) deep
   throws l less k ck (InLet x m h p e env j c vals cj i r) meets eq le q low deep = throws m h j cj r meets eq le q (omega (arith, low)) deep
   throws l less k ck (InSwitch x m h cs env j c vals cj i r) meets eq le q low deep = throws m h j cj r meets eq le q (omega (arith, low)) deep

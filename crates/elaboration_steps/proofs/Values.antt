@@ -5,7 +5,11 @@ use Rattle.mo_types.specs.declared.datum.Datum.TheVariants as part
 use Rattle.mo_values.specs.Alike.{Alike, AlikeAll, AlikeEach}
 use Rattle.mo_values.specs.Shapes.{Head, Leaf, Present, Cell, Shape, Shapes, NoShape, AShape}
 use Rattle.mo_values.specs.Shapes as shape
-use Rattle.mo_values.specs.Views.{flag_of}
+use Rattle.mo_num.specs.declared.kind.Kind.TheVariants as kind
+use Rattle.mo_types.specs.declared.node.Node.TheVariants as node
+use Rattle.mo_values.specs.Views.{leaf_of, leaf_if, natural_in, natural_of, flag_of}
+use Rattle.core_ir.specs.Choices.{on_some}
+use Rattle.mo_machine.specs.Members.{number_in}
 use Rattle.core_ir.specs.Values as core
 use Rattle.core_ir.specs.Values.{Handle}
 use Rattle.core_ir.specs.Openings.{Inside, Otherwise, NotOne, option_opened}
@@ -124,3 +128,31 @@ module _ (known : List Known) where
       by : (o : Option (Shape Code)) → present_of (shape_of v) ≡ o → AlikeFound known (where_there (λ x. Some (x ∷ [])) o) (Some (u ∷ [])) → (s : Shape Code) × (present_of (shape_of v) ≡ Some s) × Alike (Names known) s u
       by None i r = absurd r
       by (Some s) i r = (s, i, r.0)
+
+-- ---- leaves, and the number that is held
+
+module _ (known : List Known) where
+  pub leaf_same : (v : Value) (w : core.Value) → Belongs known v w → leaf_of (shape_of v) ≡ leaf_of w
+  leaf_same (Made h NoValue) (shape.Made i NoShape) a = by h i (a.0)
+    where
+      by : (h i : Head) → h ≡ i → leaf_of (shape_of (Made h NoValue)) ≡ leaf_of {F = Handle} (shape.Made i NoShape)
+      by (Leaf p) i e = ap (λ i. leaf_of {F = Handle} (shape.Made i NoShape)) e
+      by h i e = ap (λ i. leaf_of {F = Handle} (shape.Made i NoShape)) e
+  leaf_same (Made h NoValue) (shape.Made i (AShape u us)) a = absurd (a.1)
+  leaf_same (Made h (AValue v vs)) (shape.Made i NoShape) a = absurd (a.1)
+  leaf_same (Made h (AValue v vs)) (shape.Made i (AShape u us)) a = by h i (a.0)
+    where
+      by : (h i : Head) → h ≡ i → leaf_of (shape_of (Made h (AValue v vs))) ≡ leaf_of {F = Handle} (shape.Made i (AShape u us))
+      by (Leaf p) i e = ap (λ i. leaf_of {F = Handle} (shape.Made i (AShape u us))) e
+      by h i e = ap (λ i. leaf_of {F = Handle} (shape.Made i (AShape u us))) e
+  leaf_same (Made h inside) (shape.Function f) a = absurd a
+  leaf_same (Closure group which env) (shape.Function f) a = refl
+  leaf_same (Closure group which env) (shape.Made i us) a = absurd a
+  leaf_same (BuiltIn m holds) (shape.Function f) a = refl
+  leaf_same (BuiltIn m holds) (shape.Made i us) a = absurd a
+
+  pub place_same : (o : Option Value) (o' : Option core.Value) → Both known o o' → on_some None o' natural_of ≡ number_in o
+  place_same None None r = refl
+  place_same None (Some w) r = absurd r
+  place_same (Some v) None r = absurd r
+  place_same (Some v) (Some w) r = ap (λ o. natural_in (leaf_if (node.Number kind.Nat) o)) (sym (leaf_same v w r))

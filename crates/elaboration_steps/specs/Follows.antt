@@ -16,13 +16,14 @@ use Rattle.core_ir.specs.CoreMachine as core_machine
 use Rattle.core_ir.specs.CoreMachine.{Waiting, focused, at, depth_of}
 use Rattle.typed_tree.specs.declared.action.Action.{Action}
 use Rattle.typed_tree.specs.declared.action.Action.TheVariants as action
-use Rattle.typed_tree.specs.Language.{Exp, Cases, Functions, Do, NoExp, AnExp, NoCase, ACase, NoFunction, AFunction}
+use Rattle.typed_tree.specs.declared.action.Member.{Member}
+use Rattle.typed_tree.specs.declared.action.Member.TheVariants as member
+use Rattle.typed_tree.specs.Language.{Exp, Cases, Functions, NoCase, ACase, NoFunction, AFunction}
 use Rattle.mo_machine.specs.Values.{Value, Closure, BuiltIn, leaf, Code, shapes_list, values_list}
 use Rattle.mo_machine.specs.Acts.{Store, Act, Goes, Prints, Throws, Traps}
 use Rattle.mo_machine.specs.Frames as machine
 use Rattle.mo_machine.specs.Frames.{Switching, Stack, Ready}
 use Rattle.mo_machine.specs.Configurations.{live_on}
-use Rattle.mo_machine.specs.Measure.{measure}
 use Rattle.mo_machine.specs.Moves.{Move, Moved, Reduces, move}
 use Rattle.mo_machine.specs.Moves as moves
 use Rattle.mo_machine.specs.Reductions.{reduces}
@@ -37,23 +38,8 @@ use Rattle.elaboration.specs.Programs.{outside}
 use Rattle.elaboration_forms.specs.Elaborates.{Elaborates}
 use Rattle.elaboration.specs.Meeting.{Meets, MeetEach, Comes}
 use Rattle.elaboration_values.specs.Belonging.{Known, Belongs, EachBelongs, EnvironmentBelongs}
-use Rattle.elaboration_steps.specs.Stacks.{Labels, row_of, alone, StackBelongs, WorldBelongs, StateBelongs, AtCode}
-
--- labels and handlers that are open: Core has paid for each where it was entered, and the source pays where it is left
-abbrev pub owed : Stack → ℕ
-owed [] = 0
-owed (machine.Labelled ∷ k) = suc (owed k)
-owed (machine.Trying p b env ∷ k) = suc (owed k)
-owed (_ ∷ k) = owed k
-
--- it falls where Core stands still
-abbrev pub further : machine.Focus → ℕ
-further (Ready action.Call (BuiltIn m holds ∷ vs)) = 3
-further (Ready a vs) = 1
-further _ = 0
-
-abbrev pub rank : machine.Focus → Stack → ℕ
-rank f k = 4 * measure f k + length k + further f
+pub use Rattle.elaboration_steps.specs.Stacks.{owed, further, rank}
+use Rattle.elaboration_steps.specs.Stacks.{Labels, alone, StackBelongs, StateBelongs, Standing}
 
 module _ (program : Core) (context : Context) (nodes : ℕ) where
   -- steps of Core, of at most such a weight and so many levels; whether there is one
@@ -80,8 +66,7 @@ module _ (program : Core) (context : Context) (nodes : ℕ) where
     pub falls : moved ≡ false → suc (rank f k) ≤ before
     pub grows : (more : List Known) × (known' ≡ known ++ more)
     pub requests : world'.requests ≡ world.requests
-    pub worlds : WorldBelongs program.groups known' context.globals store world'
-    pub state : StateBelongs program context nodes world' known' held' f k cf' ck'
+    pub stands : Standing program context nodes world' known' held' store f k cf' ck'
 
   -- Core ends so
   pub record Stops (spent total levels : ℕ) (world : World) (cf : core_machine.Focus) (ck : List core_machine.Frame) (end : End Waiting) : Type 0 where
@@ -110,18 +95,11 @@ module _ (program : Core) (context : Context) (nodes : ℕ) where
     Acts spent cf ck (Throws cost error) = (w : core_value.Value) × Belongs known error w × Stops spent (2 * cost.weight + held) cost.levels world cf ck (Rejects w)
     Acts spent cf ck _ = Unit {0}
 
--- ---- what is asked: of built-in functions those alone are written that are one operation or a print, and as values those of them that hold nothing; values stand where values of their types do
+-- ---- what is asked: `Array.tabulate` is not called yet; values stand where values of their types do
 
-abbrev pub IsPlainCode : Exp → Type 0
-IsPlainCode (Do (action.BuiltIn m) NoExp) = (a : Action) × (alone m ≡ Some a)
-IsPlainCode (Do (action.BuiltIn m) (AnExp e es)) = ⊥
-IsPlainCode (Do action.Call (AnExp (Do (action.BuiltIn m) es) args)) = (a : Action) × (row_of m ≡ Some a)
-IsPlainCode _ = Unit {0}
-
-module _ (program : Core) (context : Context) (nodes : ℕ) (world : World) (known : List Known) (held : ℕ) where
-  abbrev pub IsPlain : (f : machine.Focus) (k : Stack) (cf : core_machine.Focus) (ck : List core_machine.Frame) → StateBelongs program context nodes world known held f k cf ck → Type 0
-  IsPlain f k cf ck (AtCode b l e env j c vals cj code around) = IsPlainCode e
-  IsPlain f k cf ck _ = Unit {0}
+abbrev pub IsFollowed : Member → Type 0
+IsFollowed member.ArrayTabulate = ⊥
+IsFollowed _ = Unit {0}
 
 abbrev pub CasesMeet : Cases → core_value.Value → Type 0
 CasesMeet NoCase w = Unit {0}
@@ -142,15 +120,10 @@ HandlerMeets (_ ∷ k) w = HandlerMeets k w
 abbrev pub Suits : List Known → machine.Focus → Stack → Type 0
 Suits known (machine.Give v) (Switching cases env ∷ k) = (w : core_value.Value) → Belongs known v w → CasesMeet cases w
 Suits known (Ready action.Call (Closure group which env ∷ vs)) k = (ws : List core_value.Value) → EachBelongs known vs ws → ParametersMeet group which ws
-Suits known (Ready action.Call (BuiltIn m holds ∷ vs)) k = (a : Action) → alone m ≡ Some a → length vs ≡ 1
+Suits known (Ready action.Call (BuiltIn m holds ∷ vs)) k = IsFollowed m × ((a : Action) → alone m ≡ Some a → length vs ≡ 1)
 Suits known (Ready action.Throw (v ∷ [])) k = (w : core_value.Value) → Belongs known v w → HandlerMeets k w
 Suits known (Ready action.Print (v ∷ [])) k = (t : Bytes) → v ≡ leaf (part.Text t) → is_utf8 t ≡ true
 Suits known _ k = Unit {0}
-
--- An `!` of null leaves its label for 1 in the source, and for 2 in Core, which paid 1 for the label.
-abbrev pub lacking : machine.Focus → ℕ
-lacking (Ready (action.Unwrap l) vs) = 1
-lacking _ = 0
 
 -- ---- laws
 
@@ -158,14 +131,14 @@ module _ (program : Core) (context : Context) (nodes : ℕ) where
   abbrev pub MovesFollow : Type 0
   MovesFollow =
       (held : ℕ) (known : List Known) (world : World) (store : Store) (f : machine.Focus) (k : Stack) (cf : core_machine.Focus) (ck : List core_machine.Frame)
-      → WorldBelongs program.groups known context.globals store world → (state : StateBelongs program context nodes world known held f k cf ck) → IsPlain program context nodes world known held f k cf ck state
+      → Standing program context nodes world known held store f k cf ck
       → MoveFollows program context nodes (rank f k) held known world store k cf ck (move f k)
 
   abbrev pub ReductionsFollow : Type 0
   ReductionsFollow =
       (held : ℕ) (known : List Known) (world : World) (store : Store) (f : machine.Focus) (k : Stack) (cf : core_machine.Focus) (ck : List core_machine.Frame)
-      → WorldBelongs program.groups known context.globals store world → StateBelongs program context nodes world known held f k cf ck → Suits known f k
-      → Acts program context nodes (rank f k) (held + lacking f) known world store k 0 cf ck (reduces context.head None store f k)
+      → Standing program context nodes world known held store f k cf ck → Suits known f k
+      → Acts program context nodes (rank f k) held known world store k 0 cf ck (reduces context.head None store f k)
 
 -- A body outside all functions begins: its parameters' patterns are looked at, and then Core stands where the body does; or it traps.
 module _ (program : Core) (context : Context) (nodes : ℕ) (world : World) (known : List Known) where

@@ -1,12 +1,18 @@
 -- Which states of Core's machine belong to those of the machine of typed programs, by the frames of the stack (Motoko language manual,
 -- section "Expressions and declarations").
-use Rattle.std.specs.Prelude.{◌≡◌, ℕ, zero, suc, ◌+◌, ◌≤◌, Bool, true, false, List, [], ◌∷◌, ◌++◌, length, Option, Some, None, slice_get}
+use Rattle.std.specs.Prelude.{◌≡◌, ℕ, zero, suc, ◌+◌, ◌*◌, ◌≤◌, Bool, true, false, List, [], ◌∷◌, ◌++◌, length, Option, Some, None, slice_get, slice_set, pos}
 use Rattle.mo_types.specs.declared.datum.Datum.TheVariants as part
 use Rattle.mo_num.specs.declared.kind.Kind.TheVariants as kind
+use Rattle.mo_num.specs.declared.operator.Operator.TheVariants as operator
 use Rattle.mo_values.specs.declared.operation.Operation.{Operation}
 use Rattle.mo_values.specs.declared.operation.Operation.TheVariants as op
 use Rattle.mo_values.specs.Costs.{weighing}
-use Rattle.mo_values.specs.Shapes.{unit}
+use Rattle.mo_values.specs.Operations.{operate}
+use Rattle.mo_values.specs.Shapes as shape
+use Rattle.mo_values.specs.Shapes.{Cell, unit}
+use Rattle.core_ir.specs.Choices.{on_some}
+use Rattle.core_ir.specs.Primitives as primitives
+use Rattle.core_ir.specs.Primitives.{advanced}
 use Rattle.core_ir.specs.declared.primitive.Constructor.TheVariants as constructor
 use Rattle.core_ir.specs.declared.primitive.Primitive.TheVariants as primitive
 use Rattle.core_ir.specs.Programs.{Group}
@@ -16,7 +22,7 @@ use Rattle.core_ir.specs.Executions.{Replies, Ends}
 use Rattle.core_ir.specs.Expressions as core
 use Rattle.core_ir.specs.Expressions.{Loop, NoExp, AnExp, Choose, Match, Bind, Break, Body, Core}
 use Rattle.core_ir.specs.CoreMachine as core_machine
-use Rattle.core_ir.specs.CoreMachine.{Arguments, Looping, Caller, Join, Did, focused, act, depth_of}
+use Rattle.core_ir.specs.CoreMachine.{Arguments, Looping, Caller, Join, Did, focused, operated, act, depth_of}
 use Rattle.typed_tree.specs.declared.action.Action.{Action}
 use Rattle.typed_tree.specs.declared.action.Action.TheVariants as action
 use Rattle.typed_tree.specs.declared.action.Member.{Member}
@@ -26,17 +32,22 @@ use Rattle.typed_tree.specs.Language as source
 use Rattle.typed_tree.specs.Language.{Exp, Exps, Cases, Functions, NoCase, ACase, Val, While, Repeat, true_value, then}
 use Rattle.typed_tree.specs.Substitution.{count}
 use Rattle.mo_meaning.specs.Reduce.{turn_cases}
-use Rattle.mo_machine.specs.Values.{Value, Values, BuiltIn, NoValue, leaf, listed}
-use Rattle.mo_machine.specs.Environments.{Environment}
-use Rattle.mo_machine.specs.Acts.{Store}
+use Rattle.mo_machine.specs.Values as machine_value
+use Rattle.mo_machine.specs.Values.{Value, Values, BuiltIn, NoValue, AValue, leaf, listed}
+use Rattle.mo_machine.specs.Environments.{Environment, at}
+use Rattle.mo_machine.specs.Acts.{Store, Goes, Stuck}
+use Rattle.mo_machine.specs.Configurations.{live_state}
+use Rattle.mo_machine.specs.Measure.{measure}
+use Rattle.mo_machine.specs.Moves.{Moved, Reduces, move}
+use Rattle.mo_machine.specs.Reductions.{reduces}
 use Rattle.mo_machine.specs.Frames as machine
 use Rattle.mo_machine.specs.Frames.{Operands, Choosing, Switching, Returning, Testing, Turning, Repeating, Retesting, Going, Stepping, Updating, Joining, Stack, Ready}
 use Rattle.elaboration.specs.Scopes.{Place, Scope, one, two, append, nothing, beside, inside, under}
 use Rattle.elaboration.specs.Checks.{around_all, behind, fails}
-use Rattle.elaboration.specs.Members.{let_in, does}
+use Rattle.elaboration.specs.Members.{form_of, number_of, function_of, let_in, does}
 use Rattle.elaboration.specs.Elaboration.{break_with, if_true, goal_of, next_of, on_nearest}
-use Rattle.elaboration.specs.Meeting.{Joins, Comes}
-use Rattle.elaboration_forms.specs.Elaborates.{May, Elaborates, ElaboratesAll, ElaboratesCases, ElaboratesFunctions}
+use Rattle.elaboration.specs.Meeting.{Reads, Joins, Comes}
+use Rattle.elaboration_forms.specs.Elaborates.{May, HasGroups, Elaborates, ElaboratesAll, ElaboratesCases, ElaboratesFunctions}
 use Rattle.elaboration_values.specs.Belonging.{Known, OfFunctions, OfMember, Belongs, EachBelongs, EnvironmentBelongs}
 
 -- frames of Core that a jump passes on its way to a label
@@ -115,16 +126,38 @@ while_of c d = if_true c d (break_with nothing)
 abbrev pub repeat_of : core.Exp → core.Exp → core.Exp
 repeat_of d c = let_in d (if_true c nothing (break_with nothing))
 
--- of a built-in function that is a value
-abbrev pub function_body : Action → Body
-function_body a = record { parameters = 1; nodes = 0; expression = core.Do (goal_at no_labels a) (one (core.Name 0)) }
-
 -- a turn of a `for`, with what is done with an element; and the cases of its body, behind which a truth value comes
 abbrev pub turn_with : core.Exp → core.Exp
 turn_with c = core.Do (Match constructor.Present c (break_with nothing)) (one (next_of (core.Name 0)))
 
 abbrev pub body_cases : Cases
 body_cases = ACase Wildcard (Val true_value) NoCase
+
+-- elements that are made one after another, of the values of these names
+pub data Making (a : Action) (e : Environment) : Exps → List Value → Type 0 where
+  NoMore : Making a e source.NoExp []
+  OneMore : (x : ℕ) (v : Value) (es : Exps) (vs : List Value) → at e x ≡ Some v → Making a e es vs → Making a e (source.AnExp (source.Do a (source.AnExp (source.Name x) source.NoExp)) es) (v ∷ vs)
+
+-- cells from a number on, one for each of these values
+abbrev pub cells_at : ℕ → List Value → List Value
+cells_at n [] = []
+cells_at n (v ∷ vs) = machine_value.Made (Cell n) NoValue ∷ cells_at (suc n) vs
+
+abbrev pub making_array : Action
+making_array = action.Operate op.MakeArray
+
+-- these cells hold these values
+abbrev pub HeldEach : primitives.Store → List core_value.Value → List core_value.Value → Type 0
+HeldEach store [] [] = Unit {0}
+HeldEach store (c ∷ cs) (w ∷ ws) = (primitives.held store (core_value.cell_of c) ≡ Some w) × HeldEach store cs ws
+HeldEach store _ _ = ⊥
+
+-- `next` of an iterator over a text that has a further character: behind the writing of the place this is put into an option
+abbrev pub option_of : ℕ → Exp
+option_of c = source.Do (action.Operate op.MakeOption) (source.AnExp (Val (source.leaf (part.Char c))) source.NoExp)
+
+abbrev pub behind_place : ℕ → Value → Stack → Stack
+behind_place c place k = Switching (ACase Wildcard (option_of c) NoCase) (AValue place NoValue) ∷ Returning 0 ∷ k
 
 -- so many ends of branches, and a truth value on its way to what stands around them
 abbrev pub joinings : ℕ → Stack → Stack
@@ -134,6 +167,29 @@ joinings (suc n) k = Joining ∷ joinings n k
 pub data Passing (t : Bool) (k : Stack) : machine.Focus → Stack → Type 0 where
   Written : (n : ℕ) (env : Environment) → Passing t k (machine.Eval (Val (source.leaf (part.Flag t))) env) (joinings n k)
   Arrived : (n : ℕ) → Passing t k (machine.Give (leaf (part.Flag t))) (joinings n k)
+
+-- what a built-in function holds stands in the names of these levels
+module _ (known : List Known) where
+  abbrev pub HeldAt : List core_value.Value → List ℕ → List Value → Type 0
+  HeldAt env [] [] = Unit {0}
+  HeldAt env (level ∷ levels) (v ∷ vs) = ((w : core_value.Value) × Reads env level w × Belongs known v w) × HeldAt env levels vs
+  HeldAt env _ _ = ⊥
+
+-- labels and handlers that are open: Core has paid for each where it was entered, and the source pays where it is left
+abbrev pub owed : Stack → ℕ
+owed [] = 0
+owed (machine.Labelled ∷ k) = suc (owed k)
+owed (machine.Trying p b env ∷ k) = suc (owed k)
+owed (_ ∷ k) = owed k
+
+-- it falls where Core stands still
+abbrev pub further : machine.Focus → ℕ
+further (Ready action.Call (BuiltIn m holds ∷ vs)) = 3
+further (Ready a vs) = 1
+further _ = 0
+
+abbrev pub rank : machine.Focus → Stack → ℕ
+rank f k = 4 * measure f k + length k + further f
 
 module _ (table : List (Group Body)) (known : List Known) (globals : List core_value.Value) where
   pub record Coded (b : Bool) (l : Labels) (e : Exp) (env : Environment) (c : core.Exp) (vals : List core_value.Value) : Type 0 where
@@ -192,6 +248,10 @@ module _ (table : List (Group Body)) (known : List Known) (globals : List core_v
     InCalling : (b : Bool) (l : Labels) (held : ℕ) (m : Member) (a : Action) (holds : Values) (done : List Value) (rest : Exps) (env : Environment) (k : Stack) (before : List core_value.Value) (later : core.Exps) (vals : List core_value.Value) (ck : List core_machine.Frame)
         → row_of m ≡ Some a → EachBelongs known (listed holds ++ done) before → CodedAll b l rest env later vals → StackBelongs nodes b l held k ck
         → StackBelongs nodes b l held (Operands action.Call (BuiltIn m holds ∷ done) rest env ∷ k) (Arguments (goal_at l a) before later vals ∷ ck)
+    -- the last operand of a built-in function that is a value
+    InHolding : (b : Bool) (l : Labels) (held : ℕ) (m : Member) (done : List Value) (env : Environment) (k : Stack) (n : ℕ) (levels : List ℕ) (vals : List core_value.Value) (ck : List core_machine.Frame)
+        → HeldAt known vals levels done → HasGroups table n (function_of (form_of m) (suc (length vals)) (levels ++ length vals ∷ []) n).groups → StackBelongs nodes b l held k ck
+        → StackBelongs nodes b l held (Operands (action.BuiltIn m) done source.NoExp env ∷ k) (Arguments (Bind (core.Functions (number_of (form_of m) n) (core.Name 0))) [] NoExp vals ∷ ck)
     InChoosing : (b : Bool) (l : Labels) (held : ℕ) (x y : Exp) (env : Environment) (k : Stack) (c d : core.Exp) (vals : List core_value.Value) (ck : List core_machine.Frame)
         → Coded b l x env c vals → Coded b l y env d vals → StackBelongs nodes b l held k ck
         → StackBelongs nodes b l held (Choosing x y env ∷ k) (Arguments (Choose primitive.Copy c d) [] NoExp vals ∷ ck)
@@ -251,12 +311,13 @@ module _ (table : List (Group Body)) (known : List Known) (globals : List core_v
     pub code : ElaboratesFunctions table (under (count fns) (scope places labels made.seen)) fns bodies
     pub names : EnvironmentBelongs known globals places env made.seen
 
-  -- a built-in function as a value: a group of one function, which has no nodes
+  -- a built-in function as a value: a group of one function
   pub record MemberBelongs (m : Member) (holds : Values) (made : MadeGroup) : Type 0 where
-    pub a : Action
-    pub is : alone m ≡ Some a
-    pub empty : holds ≡ NoValue
-    pub there : slice_get table made.code ≡ Some (record { sees = length made.seen; bodies = function_body a ∷ [] })
+    pub n : ℕ
+    pub levels : List ℕ
+    pub held : HeldAt known made.seen levels (listed holds)
+    pub there : HasGroups table n (function_of (form_of m) (length made.seen) levels n).groups
+    pub code : made.code ≡ number_of (form_of m) n
 
   abbrev pub GroupBelongs : Known → MadeGroup → Type 0
   GroupBelongs (OfFunctions fns env) made = FunctionsBelong fns env made
@@ -331,6 +392,21 @@ module _ (program : Core) (context : Context) (nodes : ℕ) (world : World) (kno
     pub level : depth_of ck ≡ depth_of others
     pub around : Around b l held k others
 
+  -- what a built-in function holds has its names, or will have
+  pub record Holding (held : ℕ) (m : Member) (vs : List Value) (k : Stack) (f : core_machine.Focus) (ck : List core_machine.Frame) : Type 0 where
+    pub b : Bool
+    pub l : Labels
+    pub n : ℕ
+    pub levels : List ℕ
+    pub vals : List core_value.Value
+    pub weight : ℕ
+    pub others : List core_machine.Frame
+    pub inside : HeldAt known vals levels vs
+    pub there : HasGroups program.groups n (function_of (form_of m) (length vals) levels n).groups
+    pub path : Comes program context nodes world weight f ck (core_machine.Eval (core.Functions (number_of (form_of m) n) (core.Name 0)) vals) others
+    pub light : weight ≤ 1
+    pub around : Around b l held k others
+
   pub data StateBelongs (held : ℕ) : machine.Focus → Stack → core_machine.Focus → List core_machine.Frame → Type 0 where
     AtCode : (b : Bool) (l : Labels) (e : Exp) (env : Environment) (k : Stack) (c : core.Exp) (vals : List core_value.Value) (ck : List core_machine.Frame)
         → Code b l e env c vals → Around b l held k ck → StateBelongs held (machine.Eval e env) k (core_machine.Eval c vals) ck
@@ -376,6 +452,54 @@ module _ (program : Core) (context : Context) (nodes : ℕ) (world : World) (kno
     AtBack : (b : Bool) (l : Labels) (v : Value) (w : core_value.Value) (k : Stack) (ck : List core_machine.Frame)
         → Belongs known v w → Around b l held k ck → StateBelongs held (machine.Give v) (Returning 0 ∷ k) (core_machine.Give w) ck
     -- a built-in function is made
-    AtFunction : (b : Bool) (l : Labels) (m : Member) (a : Action) (n : ℕ) (k : Stack) (vals : List core_value.Value) (ck : List core_machine.Frame)
-        → alone m ≡ Some a → slice_get program.groups n ≡ Some (record { sees = length vals; bodies = function_body a ∷ [] }) → Around b l held k ck
-        → StateBelongs held (Ready (action.BuiltIn m) []) k (core_machine.Eval (core.Functions n (core.Name 0)) vals) ck
+    AtFunction : (m : Member) (vs : List Value) (k : Stack) (f : core_machine.Focus) (ck : List core_machine.Frame) → Holding held m vs k f ck → StateBelongs held (Ready (action.BuiltIn m) vs) k f ck
+    -- Core has done what comes next, up to its next effect
+    Later : (f : machine.Focus) (k : Stack) (g : machine.Focus) (more : Stack) (cf : core_machine.Focus) (ck : List core_machine.Frame)
+        → move f k ≡ Moved g more → ((store : Store) → reduces context.head None store f k ≡ Stuck) → suc (rank g more) ≤ rank f k → owed k ≤ owed more → 16 + nodes + depth_of ck ≤ live_state f k
+        → StateBelongs held g more cf ck → StateBelongs held f k cf ck
+    -- without an effect
+    LaterBy : (f : machine.Focus) (k : Stack) (n : ℕ) (g : machine.Focus) (more : Stack) (cf : core_machine.Focus) (ck : List core_machine.Frame)
+        → move f k ≡ Reduces → ((store : Store) → reduces context.head None store f k ≡ Goes (weighing n) store g more) → suc (rank g more) ≤ rank f k → owed k ≤ owed more → 16 + nodes + depth_of ck ≤ live_state f k
+        → StateBelongs held g more cf ck → StateBelongs held f k cf ck
+    -- `next` of an iterator over a text: the place is raised, and written, and behind that
+    AtRaising : (b : Bool) (l : Labels) (less w i c : ℕ) (place : Value) (cell : core_value.Value) (k : Stack) (others : List core_machine.Frame) (f : core_machine.Focus) (ck : List core_machine.Frame)
+        → Belongs known place cell
+        → focused program context nodes world f ck
+        ≡ operated program context nodes world (Caller 0 None ∷ others) (advanced context.head world.store w cell (shape.leaf (part.Char c)) (operate context.head (op.Arithmetic operator.Add kind.Nat) (core_value.number i ∷ core_value.number 1 ∷ [])))
+        → depth_of ck ≡ 16 + depth_of others → less + w ≤ suc held → Around b l less k others
+        → StateBelongs held (Ready (action.Operate (op.Arithmetic operator.Add kind.Nat)) (leaf (part.Number (pos i)) ∷ leaf (part.Number (pos 1)) ∷ [])) (Operands action.Write (place ∷ []) source.NoExp (AValue place NoValue) ∷ behind_place c place k) f ck
+    AtWriting : (b : Bool) (l : Labels) (less w c : ℕ) (place v : Value) (cell u : core_value.Value) (k : Stack) (others : List core_machine.Frame) (f : core_machine.Focus) (ck : List core_machine.Frame)
+        → Belongs known place cell → Belongs known v u
+        → focused program context nodes world f ck ≡ operated program context nodes world (Caller 0 None ∷ others)
+        (on_some primitives.Stuck (core_value.cell_of cell) (λ at. primitives.Gives (weighing (3 + w)) (core_value.present (shape.leaf (part.Char c))) (slice_set world.store at u)))
+        → depth_of ck ≡ 16 + depth_of others → less + w + 1 ≤ held → Around b l less k others → StateBelongs held (Ready action.Write (place ∷ v ∷ [])) (behind_place c place k) f ck
+    AtWritten : (b : Bool) (l : Labels) (c : ℕ) (place : Value) (k : Stack) (others : List core_machine.Frame)
+        → Around b l held k others → StateBelongs held (machine.Give machine_value.unit) (behind_place c place k) (core_machine.Give (core_value.present (shape.leaf (part.Char c)))) (Caller 0 None ∷ others)
+
+  -- Elements of an array are made, for which Core waits: new cells behind those of the store that Core has, or what cells hold.
+  pub data FillingBelongs (held : ℕ) (front : Store) : Store → machine.Focus → Stack → core_machine.Focus → List core_machine.Frame → Type 0 where
+    Soon : (fresh : Store) (f : machine.Focus) (k : Stack) (g : machine.Focus) (more : Stack) (cf : core_machine.Focus) (ck : List core_machine.Frame)
+        → move f k ≡ Moved g more → ((store : Store) → reduces context.head None store f k ≡ Stuck) → suc (rank g more) ≤ rank f k → owed k ≤ owed more → 16 + nodes + depth_of ck ≤ live_state f k
+        → FillingBelongs held front fresh g more cf ck → FillingBelongs held front fresh f k cf ck
+    AtNew : (fresh : Store) (b : Bool) (l : Labels) (e : Environment) (es : Exps) (v : Value) (vs : List Value) (us : List core_value.Value) (k : Stack) (others : List core_machine.Frame) (f : core_machine.Focus) (ck : List core_machine.Frame)
+        → Making action.New e es vs → EachBelongs known (fresh ++ v ∷ vs) us → focused program context nodes world f ck ≡ operated program context nodes world (Caller 0 None ∷ others) (primitives.celled context.head world.store us)
+        → depth_of ck ≡ 16 + depth_of others → Around b l held k others
+        → FillingBelongs held front fresh (Ready action.New (v ∷ [])) (Operands making_array (cells_at (length front) fresh) es e ∷ Returning 0 ∷ k) f ck
+    AtCells : (fresh : Store) (b : Bool) (l : Labels) (us : List core_value.Value) (k : Stack) (others : List core_machine.Frame) (f : core_machine.Focus) (ck : List core_machine.Frame)
+        → EachBelongs known fresh us → focused program context nodes world f ck ≡ operated program context nodes world (Caller 0 None ∷ others) (primitives.celled context.head world.store us) → depth_of ck ≡ 16 + depth_of others → Around b l held k others
+        → FillingBelongs held front fresh (Ready making_array (cells_at (length front) fresh)) (Returning 0 ∷ k) f ck
+    AtRead : (b : Bool) (l : Labels) (e : Environment) (es : Exps) (c : Value) (cs done : List Value) (before rest ws : List core_value.Value) (k : Stack) (others : List core_machine.Frame) (f : core_machine.Focus) (ck : List core_machine.Frame)
+        → Making action.Read e es cs → EachBelongs known (c ∷ cs) rest → EachBelongs known done ws → HeldEach world.store before ws
+        → focused program context nodes world f ck ≡ operated program context nodes world (Caller 0 None ∷ others) (on_some primitives.Stuck (primitives.all_held world.store (before ++ rest)) (primitives.whole_array context.head world.store))
+        → depth_of ck ≡ 16 + depth_of others → Around b l held k others
+        → FillingBelongs held front [] (Ready action.Read (c ∷ [])) (Operands making_array done es e ∷ Returning 0 ∷ k) f ck
+    AtHeld : (b : Bool) (l : Labels) (done : List Value) (us : List core_value.Value) (k : Stack) (others : List core_machine.Frame) (f : core_machine.Focus) (ck : List core_machine.Frame)
+        → EachBelongs known done us → focused program context nodes world f ck ≡ operated program context nodes world (Caller 0 None ∷ others) (primitives.whole_array context.head world.store us) → depth_of ck ≡ 16 + depth_of others → Around b l held k others
+        → FillingBelongs held front [] (Ready making_array done) (Returning 0 ∷ k) f ck
+
+  -- where both machines stand
+  pub data Standing (held : ℕ) : Store → machine.Focus → Stack → core_machine.Focus → List core_machine.Frame → Type 0 where
+    Here : (store : Store) (f : machine.Focus) (k : Stack) (cf : core_machine.Focus) (ck : List core_machine.Frame)
+        → WorldBelongs program.groups known context.globals store world → StateBelongs held f k cf ck → Standing held store f k cf ck
+    Filling : (front fresh : Store) (f : machine.Focus) (k : Stack) (cf : core_machine.Focus) (ck : List core_machine.Frame)
+        → WorldBelongs program.groups known context.globals front world → FillingBelongs held front fresh f k cf ck → Standing held (front ++ fresh) f k cf ck

@@ -6,15 +6,14 @@ ghost use Rattle.elaboration_steps.specs.Follows.{BodiesBegin, MovesFollow, Redu
 ghost use Rattle.elaboration_steps.specs.Running.{WaysAreRuns, StopsAreRuns};
 
 /// Where the machine of typed programs looks for its next reduction, Core comes to a state that belongs to that, by steps that are paid, or by none
-/// where the rank falls; and where all is done, Core ends with a value that belongs to the last one. Of built-in functions those are written that
-/// are one operation or a print, and as values those of them that hold nothing.
+/// where the rank falls; and where all is done, Core ends with a value that belongs to the last one.
 pub fn moves_are_followed()
     ensures { (program : Core) (context : Context) (nodes : ℕ) → MovesFollow program context nodes }
 {}
 
 /// A reduction is followed by steps of Core, of which one at most has an effect: to a state that belongs to that in which it goes on, with the same
-/// print, or to the same trap or an error that belongs to its error. What these weigh is at most twice its weight and what is held, and 1 more where
-/// `!` meets null. Values stand where values of their types do; calls of other actors and waits are answered from outside.
+/// print, or to the same trap or an error that belongs to its error. What these weigh is at most twice its weight and what is held. Values stand where
+/// values of their types do; calls of other actors and waits are answered from outside, and `Array.tabulate` is not called.
 pub fn reductions_are_followed()
     ensures { (program : Core) (context : Context) (nodes : ℕ) → ReductionsFollow program context nodes }
 {}

@@ -1,5 +1,5 @@
-use Rattle.elaboration_steps.proofs.Moving.{moves_follow}
+use Rattle.elaboration_steps.proofs.Standing.{stands_move}
 use Rattle.elaboration_steps.proofs.laws.moves_are_followed.Goals as goal
 
 pub returns : goal.returns
-returns c = λ program context nodes held known world store f k cf ck worlds state plain. moves_follow program context nodes held known world store worlds f k cf ck state plain
+returns c = stands_move
