@@ -12,3 +12,5 @@ mod Missed
 mod LeftTags
 mod Marked
 mod EasyWhole
+mod EasyTags
+mod MetMarks

@@ -48,7 +48,7 @@ module _ {A : Type 0} (head : A → Node A) (has : A → Bool) where
 
   -- ---- tags
 
-  tags_left : (fs : List (Field A)) (ls : List Bytes) → tag_left has fs ls ≡ tag_remains head has fs ls
+  pub tags_left : (fs : List (Field A)) (ls : List Bytes) → tag_left has fs ls ≡ tag_remains head has fs ls
   tags_left [] ls = refl
   tags_left (f ∷ fs) ls = ap (λ b. (has f.part && not (is_label_among f.label ls)) || b) (tags_left fs ls)
 

@@ -18,3 +18,7 @@ parts_view ks = ap known (sym (V.rolls-Parts ks)) ∙ fold-roll-Shape Known shap
 pub fields_view : (ls : _) (ks : _) → known (V.Fields ls ks) ≡ K.Fields ls (knowns (all_known ks.items))
 unfolding known
 fields_view ls ks = ap known (sym (V.rolls-Fields ls ks)) ∙ fold-roll-Shape Known shape_step (S.Fields ls ks)
+
+pub not_under_view : (ls : _) → known (V.NotUnder ls) ≡ K.NotUnder ls
+unfolding known
+not_under_view ls = ap known (sym (V.rolls-NotUnder ls)) ∙ fold-roll-Shape Known shape_step (S.NotUnder ls)

@@ -7,3 +7,4 @@ pub mod Columns
 pub mod ColumnView
 pub mod Covering
 pub mod Easy
+pub mod Met

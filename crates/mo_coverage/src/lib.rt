@@ -10,7 +10,10 @@ mod missing;
 mod opening;
 mod pieces;
 mod shape;
+mod tagged;
 mod tags;
 
+pub use leaves::{is_among, is_literal_number, leaf_at};
 pub use missing::{Cover, covers};
 pub use shape::Shape;
+pub use tags::is_label_among;

@@ -14,8 +14,8 @@ use pattern_coverage::is_in;
 use std::alloc::Global;
 use typed_tree::{Literal, PatternForm, TypedPattern};
 
-// Where the tag of a label may stand. Each look-up is tested, so that nothing rests on it.
-type Hints<'a> = IndexMap<&'a [u8], usize>;
+/// Where the tag of a label may stand. Each look-up is tested, so that nothing rests on it.
+pub(crate) type Hints<'a> = IndexMap<&'a [u8], usize>;
 
 #[tactic(auto, unfolding(typed_tree::specs::PatternView::pattern, typed_tree::specs::PatternView::pattern_form, typed_tree::specs::ViewLaws::field))]
 fn is_name(typed: &TypedPattern) -> bool
@@ -38,9 +38,9 @@ fn are_names(parts: &[TypedPattern]) -> bool
     true
 }
 
-// Whether the pattern matches all values of its type, where that shows at once.
+/// Whether the pattern matches all values of its type, where that shows at once.
 #[tactic(auto, unfolding(typed_tree::specs::PatternView::pattern, typed_tree::specs::PatternView::pattern_form, typed_tree::specs::ViewLaws::field))]
-fn is_easy(typed: &TypedPattern) -> bool
+pub(crate) fn is_easy(typed: &TypedPattern) -> bool
     ensures { result ≡ is_easy (pattern typed.now) }
 {
     match typed.form.get() {
@@ -62,7 +62,8 @@ pub(crate) fn some_easy(patterns: &[&TypedPattern]) -> bool
     false
 }
 
-fn hints<'a>(alloc: Global, tags: &'a [Field]) -> Result<Hints<'a>, Memory> {
+/// Where each tag may stand.
+pub(crate) fn hints<'a>(alloc: Global, tags: &'a [Field]) -> Result<Hints<'a>, Memory> {
     let mut hints = IndexMap::new(alloc);
     for (place, tag) in tags.iter().enumerate() {
         hints.insert(tag.label.as_slice(), place)?;
@@ -70,7 +71,8 @@ fn hints<'a>(alloc: Global, tags: &'a [Field]) -> Result<Hints<'a>, Memory> {
     Ok(hints)
 }
 
-fn hint(hints: &Hints<'_>, label: &[u8]) -> usize {
+/// Where the tag of this label may stand.
+pub(crate) fn hint(hints: &Hints<'_>, label: &[u8]) -> usize {
     match hints.get(label) {
         Some(place) => *place,
         None => 0,

@@ -1,5 +1,5 @@
 //! Whether patterns cover a type.
-ghost use Rattle.std.specs.Prelude.{◌≡◌, ◌++◌, [], ◌∷◌, IfOk, IsTrue, OnOk, map};
+ghost use Rattle.std.specs.Prelude.{◌≡◌, ◌++◌, [], ◌∷◌, IfOk, IfSome, IsTrue, OnOk, map};
 ghost use Rattle.mo_types.specs.Sub.{Each};
 ghost use Rattle.typed_tree.specs.Opening.{Code};
 ghost use Rattle.typed_tree.specs.PatternView.{pattern};
@@ -12,6 +12,7 @@ ghost use Rattle.pattern_coverage.specs.Known.{Unknown};
 ghost use Rattle.pattern_coverage.specs.Suited.{IsOn};
 ghost use Rattle.mo_coverage.specs.Covering.{cover_in, missed_by, missed_by_all, unmatched};
 ghost use Rattle.mo_coverage.specs.Easy.{IsEasilyWhole};
+ghost use Rattle.mo_coverage.specs.Met.{IsByTags};
 ghost use Rattle.mo_coverage.specs.Pieces.{pieces_in};
 ghost use Rattle.mo_coverage.specs.Shapes.{all_known};
 
@@ -19,6 +20,7 @@ use crate::cutting::cut;
 use crate::marks::{are_easy, some_easy};
 use crate::pieces::Piece;
 use crate::shape::Shape;
+use crate::tagged::tagged_alone;
 use mo_num::Memory;
 use mo_types::{Node, TypeGraph, TypeId};
 use pattern_coverage::{is_in, value_node};
@@ -115,6 +117,23 @@ fn is_easily_whole(
     }
 }
 
+// What the patterns miss, if that shows at once by the tags of a variant.
+fn by_tags(
+    alloc: Global,
+    types: &TypeGraph,
+    table: &[bool],
+    patterns: &[&TypedPattern],
+    id: TypeId,
+) -> Result<Option<Cover>, Memory>
+    requires { AreLawful types.now }
+    ensures { IfOk result (λ some. IfSome some (λ cover. IsByTags (in_table table.now) (value_head types.now id) (map (λ p. pattern p.now) patterns.now) (cover_in cover))) }
+{
+    match value_node(types, id) {
+        Some(Node::Variant(tags)) => tagged_alone(alloc, table, tags.as_slice(), patterns),
+        _ => Ok(None),
+    }
+}
+
 /// Whether each value of a type matches one of the patterns: Motoko language manual, sections "Patterns" and "Switch". The table
 /// has the types that have values, as `types_with_values` of `pattern_coverage` finds them, and each pattern is on the type. Type
 /// parameters and `Any` have values.
@@ -137,5 +156,8 @@ pub fn covers(
     if is_easily_whole(alloc, types, table, patterns, id)? {
         return Ok(Cover::Whole);
     }
-    Ok(first(miss_all(alloc, types, table, patterns, id)?))
+    match by_tags(alloc, types, table, patterns, id)? {
+        Some(cover) => Ok(cover),
+        None => Ok(first(miss_all(alloc, types, table, patterns, id)?)),
+    }
 }

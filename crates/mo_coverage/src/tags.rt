@@ -31,7 +31,7 @@ pub(crate) fn seat_at(ids: &[TypeId], place: usize) -> Option<(usize, TypeId)>
 }
 
 /// Whether a label is among these.
-pub(crate) fn is_label_among(label: &[u8], labels: &[Bytes]) -> bool
+pub fn is_label_among(label: &[u8], labels: &[Bytes]) -> bool
     ensures { result ≡ is_label_among label.now labels.now }
 {
     for other in labels {
