@@ -1,0 +1,4 @@
+mod Counting
+mod Listing
+mod Sound
+mod Views

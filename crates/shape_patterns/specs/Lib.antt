@@ -1,0 +1,4 @@
+pub mod Choice
+pub mod Stands
+pub mod Writes
+pub mod Listing
