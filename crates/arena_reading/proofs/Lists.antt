@@ -1,15 +1,7 @@
 -- Lists item by item.
-use Rattle.std.proofs.Common.{◌≡◌, ℕ, zero, suc, ◌+◌, List, [], ◌∷◌, ◌++◌, take, drop, reverse, refl, sym, ap, ◌∙◌, subst, add-one}
-use Rattle.mo_types.specs.Values.{copies}
+use Rattle.std.proofs.Common.{◌≡◌, ℕ, zero, suc, ◌+◌, List, [], ◌∷◌, ◌++◌, take, drop, reverse, refl, sym, ap, ◌∙◌, add-one}
 
 module _ {A : Type 0} where
-  pub copies_more : (n : ℕ) (a : A) → copies (n + 1) a ≡ copies n a ++ a ∷ []
-  copies_more n a = ap (λ (k : ℕ). copies k a) (add-one n) ∙ by n
-    where
-      by : (k : ℕ) → copies (suc k) a ≡ copies k a ++ a ∷ []
-      by zero = refl
-      by (suc k) = ap (λ (l : List A). a ∷ l) (by k)
-
   taken : (n : ℕ) (xs : List A) (v : A) (rest : List A) → drop n xs ≡ v ∷ rest → (take (suc n) xs ≡ take n xs ++ v ∷ []) × (drop (suc n) xs ≡ rest)
   taken zero [] v rest h = absurd (let e : [] ≡ v ∷ rest = h in cc)
   taken zero (x ∷ xs) v rest h = (let e : x ∷ xs ≡ v ∷ rest = h in let f : x ≡ v = cc in ap (λ (y : A). y ∷ []) f, let e : x ∷ xs ≡ v ∷ rest = h in cc)

@@ -1,5 +1,5 @@
 -- The values of parts are those of the tree that they write.
-use Rattle.std.proofs.Common.{◌≡◌, ℕ, zero, suc, ◌+◌, ◌-◌, ◌<◌, ◌≤◌, List, [], ◌∷◌, ◌++◌, length, map, take, drop, get_or, reverse, Option, Some, None, refl, sym, ap, ap₂, ◌∙◌, subst, arith, append_assoc}
+use Rattle.std.proofs.Common.{◌≡◌, ℕ, suc, ◌+◌, ◌-◌, ◌<◌, ◌≤◌, List, [], ◌∷◌, ◌++◌, length, take, drop, get_or, refl, sym, ap, ap₂, ◌∙◌, arith, append_assoc}
 use Rattle.std.proofs.Math.ListN.{drop_of_length-le}
 use Rattle.std.proofs.Math.Seq.{drop-cons}
 use Rattle.std.proofs.lemmas.List.{append-nil}
@@ -8,12 +8,11 @@ use Rattle.mo_types.specs.declared.node.Node.{Node}
 use Rattle.mo_types.specs.declared.node.TypeId.{TypeId}
 use Rattle.mo_types.specs.Values.{Values, Nil, Value, arity, flat, inside, HaveTypes}
 use Rattle.mo_values.specs.Messages.{head_of, opened}
-use Rattle.mo_values.specs.Shapes.{Shapes, NoShape, AShape}
 use Rattle.mo_values.specs.Shapes as shape
-use Rattle.typed_tree.specs.Opening.{Code, values_of}
+use Rattle.typed_tree.specs.Opening.{values_of}
 use Rattle.mo_meaning.specs.Messages.{as_values}
 use Rattle.mo_machine.specs.Values as machine
-use Rattle.mo_machine.specs.Values.{gathered, load, load_all, load_list}
+use Rattle.mo_machine.specs.Values.{gathered, load_all, load_list}
 use Rattle.arena_reading.specs.Opening.{built, put_on, types_along}
 use Rattle.arena_coding.proofs.Trees.{length_inside}
 

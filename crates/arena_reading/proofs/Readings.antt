@@ -1,5 +1,5 @@
 -- Messages as they are read.
-use Rattle.std.proofs.Common.{◌≡◌, ℕ, zero, suc, ◌<◌, ◌≤◌, List, [], ◌∷◌, ◌++◌, length, get_or, take, drop, reverse, Option, Some, None, refl, sym, ap, ap₂, ◌∙◌, subst, arith}
+use Rattle.std.proofs.Common.{◌≡◌, ℕ, zero, suc, ◌<◌, ◌≤◌, List, [], ◌∷◌, length, get_or, take, drop, Option, Some, None, refl, sym, ap, ap₂, ◌∙◌, subst}
 use Rattle.std.proofs.Math.Seq.{drop-cons}
 use Rattle.mo_types.specs.declared.datum.Datum.{Datum}
 use Rattle.mo_types.specs.declared.datum.Datum.TheVariants as part
@@ -11,15 +11,14 @@ use Rattle.mo_types.specs.Values.{Values as Trees, arity, tree}
 use Rattle.mo_types.proofs.Candid.{flat_tree}
 use Rattle.mo_values.specs.Messages.{head_of}
 use Rattle.mo_values.specs.Shapes.{Bytes, Head}
-use Rattle.typed_tree.specs.Language.{Functions}
 use Rattle.typed_tree.specs.Language as typed
 use Rattle.mo_meaning.specs.Coding.{Coding, IsFaithful}
 use Rattle.mo_meaning.specs.Messages.{as_values, read_values, values_at}
-use Rattle.mo_machine.specs.Values.{Value, Values, AValue, Made, gathered, listed, load_list}
+use Rattle.mo_machine.specs.Values.{Value, Values, AValue, Made, gathered, listed}
 use Rattle.value_arena.specs.declared.node.Node.{Node as ArenaNode}
 use Rattle.value_arena.specs.declared.node.ValueHead.{ValueHead}
 use Rattle.value_arena.specs.declared.node.ValueId.{ValueId}
-use Rattle.value_arena.specs.Growth.{AreBelow, AreWithin, Grows, IsValueAdded}
+use Rattle.value_arena.specs.Growth.{AreBelow, AreWithin, IsValueAdded}
 use Rattle.value_arena.specs.Heads.{head_of as head_kept}
 use Rattle.value_arena.specs.Meaning.{value_at, values, values_at as ids_at, values_of}
 use Rattle.value_arena.proofs.Growing.{begins, composes, values_stay, values_there}

@@ -7,10 +7,11 @@ ghost use Rattle.mo_values.specs.Messages.{head_of, label_at, labels};
 ghost use Rattle.mo_values.specs.Shapes.{Object, Tag};
 ghost use Rattle.value_arena.specs.Heads.{head_of as head_kept};
 
-use crate::fields::{in_order, label_of, labels_of};
+use crate::fields::{label_of, labels_of};
 use arena_copies::copied_part;
 use mo_num::{Bytes, Memory};
 use mo_types::{Datum, Field, Node};
+use part_types::in_order;
 use std::alloc::Global;
 use value_arena::ValueHead;
 

@@ -7,4 +7,4 @@ mod inside;
 mod opening;
 mod reading;
 
-pub use reading::read_values;
+pub use reading::{read_values, values_of_parts};

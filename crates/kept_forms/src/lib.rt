@@ -3,4 +3,4 @@
 
 mod laws;
 
-pub use laws::{forms_by_parts, values_by_parts};
+pub use laws::{forms_by_parts, values_are_told, values_by_parts};

@@ -1,6 +1,0 @@
-use Rattle.std.proofs.Common.{◌≡◌}
-use Rattle.mo_types.specs.Values.{copies}
-use Rattle.arena_reading.proofs.inside.copied.Given as goal
-
-abbrev pub invariant-loop : goal.invariant-loop
-invariant-loop l = l.found.items ≡ copies l.counter l.of_type

@@ -1,0 +1,4 @@
+pub mod Compared
+pub mod FormSteps
+pub mod Kept
+pub mod UnformSteps
