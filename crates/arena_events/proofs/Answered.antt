@@ -1,20 +1,19 @@
 -- What comes of answers to outgoing calls.
-use Rattle.std.proofs.Common.{◌≡◌, ℕ, zero, suc, ◌+◌, List, [], ◌∷◌, ◌++◌, length, map, Bool, true, false, cond, Option, Some, None, Vec, Global, refl, sym, ap, ap₂, ◌∙◌, subst}
+use Rattle.std.proofs.Common.{◌≡◌, ℕ, zero, suc, ◌+◌, List, [], ◌∷◌, ◌++◌, map, Bool, true, false, cond, Option, Some, None, Vec, Global, refl, sym, ap, ap₂, ◌∙◌, subst}
 use Rattle.std.specs.Prelude.{codes, slice_get, slice_set}
 use Rattle.play_script.specs.declared.item.Item.{Item}
 use Rattle.play_script.specs.declared.item.Item.TheVariants as item
 use Rattle.play_script.specs.declared.item.Word.TheVariants as word
-use Rattle.mo_types.specs.Calls.{Answered, Call, CallTable, call_at, is_open_state, set_state}
+use Rattle.mo_types.specs.Calls.{Answered, Call, set_state}
 use Rattle.mo_types.specs.Heads.{map_option}
 use Rattle.mo_types.specs.declared.node.TypeId.{TypeId}
 use Rattle.mo_types.specs.Graph.{Slot}
 use Rattle.mo_values.specs.Shapes.{Bytes}
 use Rattle.mo_actor.specs.CallAnswers as answers
 use Rattle.mo_actor.specs.CallAnswers.{answer_course, answer_outcome, answering, filled, open_course, received_reading, received_value, resumed}
-use Rattle.mo_actor.specs.Completions.{activation_after, complete}
+use Rattle.mo_actor.specs.Completions.{activation_after}
 use Rattle.mo_actor.specs.Computed.{Followed, ToItsEnd, followed, followed_to}
 use Rattle.mo_actor.specs.Executions.{Execution, ReadingCost, after_reading}
-use Rattle.mo_actor.specs.Executions as execution
 use Rattle.mo_actor.specs.Outcomes.{Outcome, close, outcome, trap_items}
 use Rattle.mo_actor.specs.Programs.{Effects}
 use Rattle.mo_actor.specs.Programs as actor_programs
@@ -24,49 +23,45 @@ use Rattle.mo_actor.specs.States.{IsDead, activation_at, waiting_on}
 use Rattle.typed_tree.specs.declared.program.Program.{Program as Written}
 use Rattle.typed_tree.specs.Language.{Functions}
 use Rattle.typed_tree.specs.ProgramView.{program}
-use Rattle.typed_tree.specs.Programs.{Program}
 use Rattle.mo_meaning.specs.Acts as meaning
-use Rattle.mo_meaning.specs.Coding.{Coding, IsFaithful, Types}
-use Rattle.mo_machine.specs.ActorLanguage.{machine, Fields, Waiting}
+use Rattle.mo_meaning.specs.Coding.{Coding, IsFaithful}
+use Rattle.mo_machine.specs.ActorLanguage.{machine, Waiting}
 use Rattle.mo_machine.specs.States.{with_states}
 use Rattle.value_arena.specs.declared.node.Node.{Node}
 use Rattle.arena_states.specs.declared.group.GroupOf.{GroupOf}
 use Rattle.arena_states.specs.Groups.{HasGroups}
-use Rattle.arena_reductions.specs.Reduced.{Longer}
 use Rattle.arena_executions.specs.declared.giving.Given.{Given}
 use Rattle.arena_executions.specs.Giving.{IsThis}
-use Rattle.arena_actors.specs.declared.actor.Activation.{Activation}
 use Rattle.arena_actors.specs.declared.actor.Activation.TheVariants as activation
 use Rattle.arena_actors.specs.declared.actor.Actor.{Actor}
 use Rattle.arena_actors.specs.declared.actor.Body.{Body}
 use Rattle.arena_actors.specs.declared.actor.Filled.{Filled}
 use Rattle.arena_actors.specs.declared.actor.Made.{Made}
-use Rattle.arena_actors.specs.Copied.{IsActorCopy}
-use Rattle.arena_actors.specs.States.{actor_of, answer_of, call_of, calls_of, came_of, fields_of, table_of, AreAtRest, IsSound, Rests}
+use Rattle.arena_actors.specs.States.{actor_of, answer_of, call_of, came_of, fields_of, table_of, AreAtRest, IsSound, Rests}
 use Rattle.arena_actors.proofs.Resting.{rest_set}
 use Rattle.arena_events.specs.declared.filling.Received.{Received}
-use Rattle.arena_events.specs.declared.ran.Done.{Done}
-use Rattle.arena_events.specs.declared.ran.Ending.{Ending}
-use Rattle.arena_events.specs.declared.ran.Ending.TheVariants as ending
-use Rattle.arena_events.specs.declared.ran.Lived.{Lived}
-use Rattle.arena_events.specs.declared.ran.Lived.TheVariants as lived
-use Rattle.arena_events.specs.declared.ran.Over.{Over}
-use Rattle.arena_events.specs.declared.ran.Ran.{Ran}
-use Rattle.arena_events.specs.declared.ran.Ran.TheVariants as ran
+use Rattle.arena_outcomes.specs.declared.ran.Done.{Done}
+use Rattle.arena_outcomes.specs.declared.ran.Ending.{Ending}
+use Rattle.arena_outcomes.specs.declared.ran.Ending.TheVariants as ending
+use Rattle.arena_outcomes.specs.declared.ran.Lived.{Lived}
+use Rattle.arena_outcomes.specs.declared.ran.Lived.TheVariants as lived
+use Rattle.arena_outcomes.specs.declared.ran.Over.{Over}
+use Rattle.arena_outcomes.specs.declared.ran.Ran.{Ran}
+use Rattle.arena_outcomes.specs.declared.ran.Ran.TheVariants as ran
 use Rattle.arena_events.specs.Answering.{broken, broken_by, call_of_place, came_by, came_taken, if_open, open_at, placed, received_of, waiting_in, IsAnswered, IsAnsweredAt, IsBroken, IsGoingOn, IsGoingWith, IsGoneOn, IsGoneOnKept, Placed}
-use Rattle.arena_events.specs.Books as books
-use Rattle.arena_events.specs.Books.{came_after, closed, completed, effects_of, ending_of, is_open, state_set}
+use Rattle.arena_outcomes.specs.Books as books
+use Rattle.arena_outcomes.specs.Books.{came_after, closed, completed, effects_of, ending_of, is_open, state_set}
 use Rattle.arena_events.specs.Calling.{trapping}
-use Rattle.arena_events.specs.Ends.{table_in, Ends, IsChange, RestingIn}
+use Rattle.arena_outcomes.specs.Ends.{table_in, Ends, IsChange, RestingIn}
 use Rattle.arena_events.specs.Filling.{call_in, place_of, received_as, AreGiven, IsGivenAs}
-use Rattle.arena_events.specs.Lives.{Comes, CourseOf, Lives}
+use Rattle.arena_events.specs.Lives.{CourseOf, Lives}
 use Rattle.arena_events.proofs.Calls.{traps_at_once, trapping_table}
-use Rattle.arena_events.proofs.Closes.{came_set, came_within_set, close_is, closed_rests, closed_sound, closed_table, open_is}
-use Rattle.arena_events.proofs.Commits.{came_after_is, came_after_rests, came_after_within, complete_is}
+use Rattle.arena_outcomes.proofs.Closes.{came_set, came_within_set, close_is, closed_rests, closed_sound, closed_table, open_is}
+use Rattle.arena_outcomes.proofs.Commits.{came_after_is, came_after_rests, came_after_within, complete_is}
 use Rattle.arena_events.proofs.Follows.{followed_completes, followed_still, followed_traps}
-use Rattle.arena_events.proofs.Placing.{set_twice}
+use Rattle.arena_outcomes.proofs.Placing.{set_twice}
 use Rattle.arena_events.proofs.Receives.{lives_alike}
-use Rattle.arena_events.proofs.Replies.{broken_is, received_is, table_filled, waiting_is}
+use Rattle.arena_events.proofs.Replies.{broken_is, received_is, table_filled}
 use Rattle.arena_events.proofs.Tables.{call_is}
 
 -- the cost of reading shows in nothing else

@@ -22,15 +22,15 @@ use Rattle.arena_actors.specs.declared.actor.Filled.{Filled}
 use Rattle.arena_actors.specs.declared.actor.Made.{Made}
 use Rattle.arena_actors.specs.Copied.{IsActorCopy}
 use Rattle.arena_actors.specs.States.{came_of, fields_of, IsSound}
-use Rattle.arena_events.specs.declared.ran.Ran.{Ran}
+use Rattle.arena_outcomes.specs.declared.ran.Ran.{Ran}
 use Rattle.arena_events.specs.Answering.{IsGoingOn, IsGoingWith}
-use Rattle.arena_events.specs.Books.{state_set}
+use Rattle.arena_outcomes.specs.Books.{state_set}
 use Rattle.arena_events.specs.Calling.{IsEntered}
 use Rattle.arena_events.specs.Filling.{AreGiven}
-use Rattle.arena_events.specs.Running.{IsMethod}
+use Rattle.arena_outcomes.specs.Running.{IsMethod}
 use Rattle.arena_events.proofs.Answered.{read_going}
 use Rattle.arena_events.proofs.Calls.{plain_dead, read_entered}
-use Rattle.arena_events.proofs.Grown.{arrived_came, arrived_sound, grown_came, grown_fields, grown_sound}
+use Rattle.arena_outcomes.proofs.Grown.{arrived_came, arrived_sound, grown_came, grown_fields, grown_sound}
 
 -- ---- an incoming call whose argument was read
 

@@ -11,22 +11,21 @@ use Rattle.mo_types.specs.Graph.{Slot}
 use Rattle.mo_values.specs.Shapes.{Bytes}
 use Rattle.mo_actor.specs.Completions as completions
 use Rattle.mo_actor.specs.Completions.{activation_after, complete}
-use Rattle.mo_actor.specs.Computed.{Followed, ToItsEnd, followed, followed_to}
-use Rattle.mo_actor.specs.Courses.{Course}
+use Rattle.mo_actor.specs.Computed.{ToItsEnd, followed_to}
 use Rattle.mo_actor.specs.Executions.{Execution, ReadingCost, after_reading}
 use Rattle.mo_actor.specs.Executions as execution
 use Rattle.mo_actor.specs.IncomingCalls.{arrived, entered, entered_body}
-use Rattle.mo_actor.specs.Outcomes.{Outcome, answer_items, close, outcome, print_items, rejected, trap_items}
+use Rattle.mo_actor.specs.Outcomes.{Outcome, close, outcome, print_items, rejected, trap_items}
 use Rattle.mo_actor.specs.Programs.{Effects}
 use Rattle.mo_actor.specs.Results.{Completed, Result, Trapped}
 use Rattle.mo_actor.specs.States as actor
-use Rattle.mo_actor.specs.States.{IsAnswered, IsDead, activation_at, is_starved}
+use Rattle.mo_actor.specs.States.{IsAnswered, IsDead, activation_at}
 use Rattle.typed_tree.specs.Language.{Functions}
 use Rattle.typed_tree.specs.Language as typed
 use Rattle.typed_tree.specs.Programs.{Program}
 use Rattle.mo_meaning.specs.Acts.{Given}
 use Rattle.mo_meaning.specs.Actor.{surroundings}
-use Rattle.mo_meaning.specs.Coding.{Coding, IsFaithful, Types}
+use Rattle.mo_meaning.specs.Coding.{Coding, Types}
 use Rattle.mo_meaning.specs.Kernel.{Entry}
 use Rattle.mo_meaning.specs.Messages.{read_values, reading_cost}
 use Rattle.mo_machine.specs.ActorLanguage.{machine, Body, Enters, Fields}
@@ -39,7 +38,6 @@ use Rattle.value_arena.specs.declared.node.ValueId.{ValueId}
 use Rattle.arena_states.specs.declared.group.GroupOf.{GroupOf}
 use Rattle.arena_states.specs.Groups.{HasGroups}
 use Rattle.arena_states.specs.Standing.{list_of}
-use Rattle.arena_reductions.specs.Reduced.{Longer}
 use Rattle.arena_reading.specs.Opening.{AreRead, IsReadAs}
 use Rattle.arena_actors.specs.declared.actor.Activation.{Activation}
 use Rattle.arena_actors.specs.declared.actor.Activation.TheVariants as activation
@@ -47,26 +45,25 @@ use Rattle.arena_actors.specs.declared.actor.Actor.{Actor}
 use Rattle.arena_actors.specs.declared.actor.Made.{Made}
 use Rattle.arena_actors.specs.States.{activation_of, actor_of, came_of, fields_of, table_of, AreAtRest, IsSound, Rests}
 use Rattle.arena_actors.proofs.Resting.{rest_more}
-use Rattle.arena_events.specs.declared.ran.Done.{Done}
-use Rattle.arena_events.specs.declared.ran.Ending.{Ending}
-use Rattle.arena_events.specs.declared.ran.Ending.TheVariants as ending
-use Rattle.arena_events.specs.declared.ran.Lived.{Lived}
-use Rattle.arena_events.specs.declared.ran.Lived.TheVariants as lived
-use Rattle.arena_events.specs.declared.ran.Over.{Over}
-use Rattle.arena_events.specs.declared.ran.Ran.{Ran}
-use Rattle.arena_events.specs.declared.ran.Ran.TheVariants as ran
-use Rattle.arena_events.specs.Books as books
-use Rattle.arena_events.specs.Books.{completed, effects_of, ending_of}
-use Rattle.arena_events.specs.Calling.{after_query, found_course, missing_course, outcome_by, trapping, IsArrived, IsArrivedKept, IsCompletedBy, IsEntered, IsMissing, IsQueried, IsTold}
-use Rattle.arena_events.specs.Ends.{table_in, Ends, IsKept, RestingIn}
-use Rattle.arena_events.specs.Leaving.{IsLeftWith}
-use Rattle.arena_events.specs.Lives.{Comes, CourseOf, Lives}
-use Rattle.arena_events.specs.Running.{IsMethod}
-use Rattle.arena_events.proofs.Closes.{closed_rests, closed_sound, closed_table}
-use Rattle.arena_events.proofs.Commits.{answers_are, came_after_is, came_after_rests, came_after_within, complete_is}
+use Rattle.arena_outcomes.specs.declared.ran.Done.{Done}
+use Rattle.arena_outcomes.specs.declared.ran.Ending.{Ending}
+use Rattle.arena_outcomes.specs.declared.ran.Ending.TheVariants as ending
+use Rattle.arena_outcomes.specs.declared.ran.Lived.{Lived}
+use Rattle.arena_outcomes.specs.declared.ran.Lived.TheVariants as lived
+use Rattle.arena_outcomes.specs.declared.ran.Over.{Over}
+use Rattle.arena_outcomes.specs.declared.ran.Ran.{Ran}
+use Rattle.arena_outcomes.specs.declared.ran.Ran.TheVariants as ran
+use Rattle.arena_outcomes.specs.Books as books
+use Rattle.arena_outcomes.specs.Books.{completed, effects_of, ending_of}
+use Rattle.arena_events.specs.Calling.{after_query, found_course, outcome_by, trapping, IsArrived, IsArrivedKept, IsCompletedBy, IsEntered, IsMissing, IsQueried, IsTold}
+use Rattle.arena_outcomes.specs.Ends.{table_in, Ends, IsKept, RestingIn}
+use Rattle.arena_events.specs.Lives.{CourseOf, Lives}
+use Rattle.arena_outcomes.specs.Running.{IsMethod}
+use Rattle.arena_outcomes.proofs.Closes.{closed_rests, closed_sound, closed_table}
+use Rattle.arena_outcomes.proofs.Commits.{answers_are, came_after_is, came_after_rests, came_after_within, complete_is}
 use Rattle.arena_events.proofs.Follows.{followed_completes, followed_still, followed_traps}
-use Rattle.arena_events.proofs.Grown.{left_so, IsLeft, IsPlain}
-use Rattle.arena_events.proofs.Placing.{set_last}
+use Rattle.arena_outcomes.proofs.Grown.{left_so, IsLeft, IsPlain}
+use Rattle.arena_outcomes.proofs.Placing.{set_last}
 
 pub plain_dead : IsPlain activation.Dead IsDead
 plain_dead = record { within = λ ns. tt; means = λ groups ns. refl; rests = tt }

@@ -1,6 +1,6 @@
 -- Courses of one execution, followed for so many turns.
-use Rattle.std.proofs.Common.{◌≡◌, ℕ, List, [], ◌∷◌, Option, Some, None, refl, ap, ◌∙◌}
-use Rattle.mo_actor.specs.Computed.{Extent, Followed, ToItsEnd, behind_result, followed, followed_to, result_by}
+use Rattle.std.proofs.Common.{◌≡◌, ℕ, [], ◌∷◌, Option, Some, None, ap}
+use Rattle.mo_actor.specs.Computed.{Followed, ToItsEnd, behind_result, followed, followed_to, result_by}
 use Rattle.mo_actor.specs.Courses.{Course, Over, Runs}
 use Rattle.mo_actor.specs.Executions.{Completes, Completion, Execution, Traps}
 use Rattle.mo_actor.specs.Outcomes.{Outcome}

@@ -13,11 +13,11 @@ use Rattle.arena_actors.specs.declared.actor.Actor.{Actor}
 use Rattle.arena_actors.specs.declared.actor.Body.{Body}
 use Rattle.arena_actors.specs.States.{AreCameWithin, IsActivationWithin, IsBodyWithin, IsSound}
 use Rattle.arena_events.specs.declared.answering.Taken.{Taken}
-use Rattle.arena_events.specs.declared.ran.Ran.{Ran}
-use Rattle.arena_events.specs.declared.ran.Ran.TheVariants as ran
+use Rattle.arena_outcomes.specs.declared.ran.Ran.{Ran}
+use Rattle.arena_outcomes.specs.declared.ran.Ran.TheVariants as ran
 use Rattle.arena_events.specs.Answering.{no_effects, taken, taken_by, waiting_in, IsGoingWith}
-use Rattle.arena_events.specs.Running.{IsResumed}
-use Rattle.arena_events.proofs.Closes.{came_within_set}
+use Rattle.arena_outcomes.specs.Running.{IsResumed}
+use Rattle.arena_outcomes.proofs.Closes.{came_within_set}
 use Rattle.arena_events.proofs.Replies.{idle_so, waiting_so}
 
 -- ---- its values are in the arena

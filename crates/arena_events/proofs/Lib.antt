@@ -1,15 +1,9 @@
-pub mod Placing
-pub mod Closes
-pub mod Commits
 pub mod Follows
-pub mod Runs
-pub mod Grown
 pub mod Calls
 pub mod Receives
 pub mod Tables
 pub mod Replies
 pub mod Answered
-pub mod ItemLists
 pub mod Named
 pub mod Assembled
 pub mod Goings

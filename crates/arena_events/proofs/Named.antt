@@ -1,13 +1,11 @@
 -- Methods by their names.
-use Rattle.std.proofs.Common.{◌≡◌, ℕ, zero, suc, ◌+◌, ◌<◌, ◌≤◌, List, [], ◌∷◌, length, get_or, map, drop, Bool, true, false, cond, Option, Some, None, refl, sym, ap, ap₂, ◌∙◌, arith}
-use Rattle.std.specs.Prelude.{◌&&◌, not}
+use Rattle.std.proofs.Common.{◌≡◌, ℕ, suc, ◌+◌, ◌<◌, ◌≤◌, List, [], ◌∷◌, length, get_or, map, drop, Bool, true, false, cond, Option, Some, refl, sym, ap, ◌∙◌, arith}
 use Rattle.std.proofs.Math.Seq.{drop-cons}
 use Rattle.std.proofs.Math.ListN.{drop_of_length-le}
 use Rattle.mo_values.specs.Shapes.{Bytes}
 use Rattle.typed_tree.specs.declared.program.Method.{Method as Written}
 use Rattle.typed_tree.specs.ProgramView.{is_query, method}
-use Rattle.typed_tree.specs.Programs.{Method}
-use Rattle.typed_tree.specs.View.{FunctionView, function}
+use Rattle.typed_tree.specs.View.{FunctionView}
 use Rattle.mo_meaning.specs.Actor.{method_from}
 use Rattle.mo_meaning.specs.Actor as meaning
 use Rattle.mo_meaning.specs.Kernel.{Entry}

@@ -1,13 +1,10 @@
 -- Incoming calls by the names of methods.
-use Rattle.std.proofs.Common.{◌≡◌, ℕ, [], ◌∷◌, map, Bool, true, false, Option, Some, None, refl, sym, ap, ◌∙◌, subst}
-use Rattle.play_script.specs.declared.event.Event.TheVariants as event
-use Rattle.mo_types.specs.Heads.{map_option}
+use Rattle.std.proofs.Common.{◌≡◌, ℕ, [], ◌∷◌, map, Bool, true, false, Option, Some, None, sym, ap, subst}
 use Rattle.mo_values.specs.Shapes.{Bytes}
 use Rattle.mo_actor.specs.Computed.{Followed, ToItsEnd, followed}
 use Rattle.mo_actor.specs.IncomingCalls.{query_course, update_course}
 use Rattle.mo_actor.specs.Programs as actor_programs
 use Rattle.mo_actor.specs.States as actor
-use Rattle.mo_actor.specs.Steps.{life_course}
 use Rattle.typed_tree.specs.declared.program.Program.{Program as Written}
 use Rattle.typed_tree.specs.Language.{Functions}
 use Rattle.typed_tree.specs.ProgramView.{method, program}
@@ -18,8 +15,8 @@ use Rattle.mo_machine.specs.ActorLanguage.{machine}
 use Rattle.mo_machine.specs.States.{with_states}
 use Rattle.arena_actors.specs.declared.actor.Actor.{Actor}
 use Rattle.arena_actors.specs.States.{actor_of}
-use Rattle.arena_events.specs.declared.ran.Lived.{Lived}
-use Rattle.arena_events.specs.Calling.{found_course, missing_course, IsCalled, IsMissing, IsReceived}
+use Rattle.arena_outcomes.specs.declared.ran.Lived.{Lived}
+use Rattle.arena_events.specs.Calling.{IsCalled, IsMissing, IsReceived}
 use Rattle.arena_events.specs.Lives.{Comes, CourseOf, Lives}
 
 -- a course that comes to the same

@@ -1,39 +1,29 @@
 -- Answers to outgoing calls.
-use Rattle.std.proofs.Common.{◌≡◌, ℕ, zero, suc, ◌+◌, List, [], ◌∷◌, ◌++◌, length, map, set, Bool, true, false, cond, nat_eq, Option, Some, None, Vec, Global, refl, sym, ap, ap₂, ◌∙◌, subst}
-use Rattle.std.specs.Prelude.{codes, slice_get, slice_set}
-use Rattle.play_script.specs.declared.item.Item.{Item}
-use Rattle.play_script.specs.declared.item.Item.TheVariants as item
-use Rattle.play_script.specs.declared.item.Word.TheVariants as word
-use Rattle.mo_types.specs.Calls.{Answered, Call, CallTable, Lost, State, call_at, call_from, set_from, set_state}
+use Rattle.std.proofs.Common.{◌≡◌, ℕ, zero, suc, List, [], ◌∷◌, Bool, true, false, cond, nat_eq, Option, Some, None, refl, sym, ap, ap₂, ◌∙◌, subst}
+use Rattle.std.specs.Prelude.{slice_get, slice_set}
+use Rattle.mo_types.specs.Calls.{Answered, Call, CallTable, State, call_from, set_state}
 use Rattle.mo_types.specs.Calls as calls
 use Rattle.mo_types.specs.Heads.{map_option}
 use Rattle.mo_types.specs.declared.node.TypeId.{TypeId}
 use Rattle.mo_types.specs.Graph.{Slot}
 use Rattle.mo_values.specs.Shapes.{Bytes}
 use Rattle.mo_actor.specs.CallAnswers as answers
-use Rattle.mo_actor.specs.CallAnswers.{answer_outcome, answering, filled, open_course, received_reading, received_value, resumed, value_in_state}
-use Rattle.mo_actor.specs.Completions.{activation_after, complete}
-use Rattle.mo_actor.specs.Computed.{Followed, ToItsEnd, followed, followed_to}
-use Rattle.mo_actor.specs.Executions.{Completes, Execution, ReadingCost, after_reading}
-use Rattle.mo_actor.specs.Outcomes.{Outcome, close, outcome, trap_items}
+use Rattle.mo_actor.specs.CallAnswers.{received_value, resumed, value_in_state}
+use Rattle.mo_actor.specs.Executions.{Completes, Execution}
 use Rattle.mo_actor.specs.Programs.{Effects}
 use Rattle.mo_actor.specs.Programs as actor_programs
-use Rattle.mo_actor.specs.Results.{Completed, Result, Trapped}
 use Rattle.mo_actor.specs.States as actor
-use Rattle.mo_actor.specs.States.{IsAnswered, IsDead, WaitsFor, WaitsForNothing, activation_at, waiting_on}
+use Rattle.mo_actor.specs.States.{activation_at, waiting_on}
 use Rattle.typed_tree.specs.Language.{Functions}
 use Rattle.typed_tree.specs.Programs.{Program}
 use Rattle.mo_meaning.specs.Acts as meaning
 use Rattle.mo_meaning.specs.Actor.{surroundings}
-use Rattle.mo_meaning.specs.Coding.{Coding, IsFaithful, Types}
+use Rattle.mo_meaning.specs.Coding.{Coding, Types}
 use Rattle.mo_machine.specs.ActorLanguage.{machine, Fields, Resumes, Waiting}
 use Rattle.mo_machine.specs.Bodies.{execution_of}
 use Rattle.mo_machine.specs.States.{with_states}
 use Rattle.value_arena.specs.declared.node.Node.{Node}
-use Rattle.arena_states.specs.declared.group.GroupOf.{GroupOf}
-use Rattle.arena_states.specs.Groups.{HasGroups}
 use Rattle.arena_executions.specs.declared.giving.Given.{Given}
-use Rattle.arena_executions.specs.Giving.{IsThis}
 use Rattle.arena_actors.specs.declared.actor.Activation.{Activation}
 use Rattle.arena_actors.specs.declared.actor.Activation.TheVariants as activation
 use Rattle.arena_actors.specs.declared.actor.Actor.{Actor}
@@ -41,21 +31,19 @@ use Rattle.arena_actors.specs.declared.actor.Body.{Body}
 use Rattle.arena_actors.specs.declared.actor.Filled.{Filled}
 use Rattle.arena_actors.specs.declared.actor.Filled.TheVariants as filled_as
 use Rattle.arena_actors.specs.declared.actor.Made.{Made}
-use Rattle.arena_actors.specs.States.{activation_of, actor_of, answer_of, call_of, calls_of, came_of, fields_of, state_of, table_of, waiting_of, IsResting, IsSound, Rests}
+use Rattle.arena_actors.specs.States.{activation_of, actor_of, answer_of, call_of, came_of, fields_of, state_of, table_of, waiting_of, IsResting, IsSound, Rests}
 use Rattle.arena_actors.proofs.Resting.{rest_at, waiting_rests}
 use Rattle.arena_events.specs.declared.filling.Received.{Received}
 use Rattle.arena_events.specs.declared.filling.Received.TheVariants as receives
-use Rattle.arena_events.specs.declared.ran.Done.{Done}
-use Rattle.arena_events.specs.declared.ran.Ending.TheVariants as ending
-use Rattle.arena_events.specs.declared.ran.Ran.{Ran}
-use Rattle.arena_events.specs.declared.ran.Ran.TheVariants as ran
+use Rattle.arena_outcomes.specs.declared.ran.Ran.{Ran}
+use Rattle.arena_outcomes.specs.declared.ran.Ran.TheVariants as ran
 use Rattle.arena_events.specs.Answering.{broken_by, came_by, no_effects, received_of, waiting_in, IsGoingWith, IsGoneOnKept}
 use Rattle.arena_events.specs.Answering as answering_specs
-use Rattle.arena_events.specs.Books.{effects_of, state_set}
-use Rattle.arena_events.specs.Ends.{table_in, Ends, IsKept, RestingIn}
+use Rattle.arena_outcomes.specs.Books.{state_set}
+use Rattle.arena_outcomes.specs.Ends.{Ends, IsKept}
 use Rattle.arena_events.specs.Filling.{as_answer, call_in, filled_in, place_of, received_as, reply_as}
-use Rattle.arena_events.specs.Running.{IsResumed}
-use Rattle.arena_events.proofs.Closes.{came_set}
+use Rattle.arena_outcomes.specs.Running.{IsResumed}
+use Rattle.arena_outcomes.proofs.Closes.{came_set}
 use Rattle.arena_events.proofs.Tables.{call_is, put_is}
 
 -- ---- what waits on a call

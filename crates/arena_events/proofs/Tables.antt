@@ -1,8 +1,8 @@
 -- Outgoing calls by their numbers.
-use Rattle.std.proofs.Common.{◌≡◌, ℕ, zero, suc, ◌+◌, ◌-◌, ◌<◌, ◌≤◌, List, [], ◌∷◌, length, map, Bool, true, false, cond, nat_eq, nat_lt, Option, Some, None, refl, sym, ap, ap₂, ◌∙◌, arith}
+use Rattle.std.proofs.Common.{◌≡◌, ℕ, zero, suc, ◌+◌, ◌-◌, ◌<◌, ◌≤◌, List, [], ◌∷◌, Bool, true, false, cond, nat_eq, nat_lt, Some, None, refl, ap, ◌∙◌, arith}
 use Rattle.std.specs.Prelude.{slice_get}
 use Rattle.std.proofs.lemmas.Bool.{eq-eqb, eqb-true, ltb-false, ltb-true}
-use Rattle.mo_types.specs.Calls.{Call, CallTable, State, call_from, set_from}
+use Rattle.mo_types.specs.Calls.{Call, State, call_from, set_from}
 use Rattle.mo_types.specs.Heads.{map_option}
 use Rattle.mo_types.specs.declared.node.TypeId.{TypeId}
 use Rattle.mo_meaning.specs.Acts.{Given}
@@ -10,7 +10,7 @@ use Rattle.mo_meaning.specs.Coding.{Coding, Types}
 use Rattle.arena_actors.specs.declared.actor.Filled.{Filled}
 use Rattle.arena_actors.specs.declared.actor.Made.{Made}
 use Rattle.arena_actors.specs.States.{call_of, calls_of, state_of}
-use Rattle.arena_events.specs.Books.{state_set}
+use Rattle.arena_outcomes.specs.Books.{state_set}
 use Rattle.arena_events.specs.Filling.{call_in, place_of}
 
 module _ {T V : Type 0} where

@@ -1,12 +1,11 @@
 -- Answers to outgoing calls: IC interface specification, section "Callback invocation"; Motoko language manual, section "Await".
-use Rattle.std.specs.Prelude.{◌≡◌, ℕ, List, [], ◌∷◌, ◌++◌, map, Bool, true, cond, is_some, nat_eq, Option, Some, None, slice_get, slice_set}
+use Rattle.std.specs.Prelude.{◌≡◌, ℕ, List, [], ◌∷◌, ◌++◌, map, true, cond, nat_eq, Option, Some, None, slice_get, slice_set}
 use Rattle.play_script.specs.declared.item.Item.TheVariants as item
 use Rattle.play_script.specs.declared.item.Word.TheVariants as word
 use Rattle.mo_types.specs.Graph.{Slot}
 use Rattle.mo_values.specs.Shapes.{Bytes}
 use Rattle.mo_actor.specs.CallAnswers as answers
-use Rattle.mo_actor.specs.CallAnswers.{answer_course, answering, open_course, resumed}
-use Rattle.mo_actor.specs.Programs.{Effects}
+use Rattle.mo_actor.specs.CallAnswers.{answer_course, open_course, resumed}
 use Rattle.mo_actor.specs.States as actor
 use Rattle.mo_actor.specs.States.{IsDead, activation_at, waiting_on}
 use Rattle.mo_types.specs.Calls.{Answered, call_at, set_state}
@@ -35,15 +34,15 @@ use Rattle.arena_actors.specs.States.{actor_of, answer_of, call_of, came_of, IsS
 use Rattle.arena_events.specs.declared.answering.Taken.{Taken}
 use Rattle.arena_events.specs.declared.filling.Received.{Received}
 use Rattle.arena_events.specs.declared.filling.Received.TheVariants as receives
-use Rattle.arena_events.specs.declared.ran.Done.{Done}
-use Rattle.arena_events.specs.declared.ran.Ending.TheVariants as ending
-use Rattle.arena_events.specs.declared.ran.Lived.{Lived}
-use Rattle.arena_events.specs.declared.ran.Over.{Over}
-use Rattle.arena_events.specs.declared.ran.Ran.{Ran}
-use Rattle.arena_events.specs.declared.ran.Ran.TheVariants as ran
-use Rattle.arena_events.specs.Books.{closed, is_open, state_set}
-use Rattle.arena_events.specs.Ends.{table_in, Ends, IsChange, IsEndingWithin, RestingIn}
-use Rattle.arena_events.specs.Filling.{call_in, place_of, received_as}
+use Rattle.arena_outcomes.specs.declared.ran.Done.{Done}
+use Rattle.arena_outcomes.specs.declared.ran.Ending.TheVariants as ending
+use Rattle.arena_outcomes.specs.declared.ran.Lived.{Lived}
+use Rattle.arena_outcomes.specs.declared.ran.Over.{Over}
+use Rattle.arena_outcomes.specs.declared.ran.Ran.{Ran}
+use Rattle.arena_outcomes.specs.declared.ran.Ran.TheVariants as ran
+use Rattle.arena_outcomes.specs.Books.{closed, is_open, state_set}
+use Rattle.arena_outcomes.specs.Ends.{table_in, Ends, IsChange, IsEndingWithin, RestingIn}
+use Rattle.arena_events.specs.Filling.{place_of}
 use Rattle.arena_events.specs.Lives.{Lives}
 
 -- ---- what waits on a call

@@ -32,17 +32,17 @@ use Rattle.arena_actors.specs.declared.actor.Activation.{Activation}
 use Rattle.arena_actors.specs.declared.actor.Activation.TheVariants as activation
 use Rattle.arena_actors.specs.declared.actor.Actor.{Actor}
 use Rattle.arena_actors.specs.States.{actor_of, came_of, IsSound}
-use Rattle.arena_events.specs.declared.ran.Done.{Done}
-use Rattle.arena_events.specs.declared.ran.Ending.{Ending}
-use Rattle.arena_events.specs.declared.ran.Ending.TheVariants as ending
-use Rattle.arena_events.specs.declared.ran.Lived.{Lived}
-use Rattle.arena_events.specs.declared.ran.Lived.TheVariants as lived
-use Rattle.arena_events.specs.declared.ran.Over.{Over as Came}
-use Rattle.arena_events.specs.declared.ran.Ran.{Ran}
-use Rattle.arena_events.specs.declared.ran.Ran.TheVariants as ran
-use Rattle.arena_events.specs.Books.{answer_items, completed}
-use Rattle.arena_events.specs.Ends.{table_in, Ends, IsEndingWithin, RestingIn}
-use Rattle.arena_events.specs.Leaving.{IsLeftWith}
+use Rattle.arena_outcomes.specs.declared.ran.Done.{Done}
+use Rattle.arena_outcomes.specs.declared.ran.Ending.{Ending}
+use Rattle.arena_outcomes.specs.declared.ran.Ending.TheVariants as ending
+use Rattle.arena_outcomes.specs.declared.ran.Lived.{Lived}
+use Rattle.arena_outcomes.specs.declared.ran.Lived.TheVariants as lived
+use Rattle.arena_outcomes.specs.declared.ran.Over.{Over as Came}
+use Rattle.arena_outcomes.specs.declared.ran.Ran.{Ran}
+use Rattle.arena_outcomes.specs.declared.ran.Ran.TheVariants as ran
+use Rattle.arena_outcomes.specs.Books.{answer_items, completed}
+use Rattle.arena_outcomes.specs.Ends.{table_in, Ends, IsEndingWithin, RestingIn}
+use Rattle.arena_outcomes.specs.Leaving.{IsLeftWith}
 use Rattle.arena_events.specs.Lives.{Lives}
 
 -- an execution of one turn, that traps with this text

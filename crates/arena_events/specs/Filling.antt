@@ -1,5 +1,5 @@
 -- What a future is filled with: Motoko language manual, section "Await".
-use Rattle.std.specs.Prelude.{◌≡◌, ℕ, ◌-◌, List, [], ◌∷◌, nat_lt, cond, Option, Some, None, slice_get}
+use Rattle.std.specs.Prelude.{ℕ, ◌-◌, List, [], ◌∷◌, nat_lt, cond, Option, Some, None, slice_get}
 use Rattle.mo_types.specs.Graph.{Slot}
 use Rattle.mo_values.specs.Shapes.{Tuple}
 use Rattle.typed_tree.specs.Language.{Functions}

@@ -1,7 +1,3 @@
-pub mod Books
-pub mod Leaving
-pub mod Ends
-pub mod Running
 pub mod Methods
 pub mod Filling
 pub mod Lives

@@ -13,8 +13,8 @@ use Rattle.arena_states.specs.Groups.{HasGroups}
 use Rattle.arena_reductions.specs.Reduced.{Longer}
 use Rattle.arena_actors.specs.declared.actor.Actor.{Actor}
 use Rattle.arena_actors.specs.States.{actor_of, IsSound, Rests}
-use Rattle.arena_events.specs.declared.ran.Lived.{Lived}
-use Rattle.arena_events.specs.declared.ran.Lived.TheVariants as lived
+use Rattle.arena_outcomes.specs.declared.ran.Lived.{Lived}
+use Rattle.arena_outcomes.specs.declared.ran.Lived.TheVariants as lived
 
 -- the groups of functions that are known then
 abbrev pub table_after : Actor → Lived → List GroupOf

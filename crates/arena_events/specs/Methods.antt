@@ -1,5 +1,5 @@
 -- Methods by their names: Motoko language manual, section "Shared functions".
-use Rattle.std.specs.Prelude.{◌≡◌, ℕ, Bool, ◌&&◌, cond, not, Option}
+use Rattle.std.specs.Prelude.{Bool, ◌&&◌, cond, not}
 use Rattle.std.specs.Str.{bytes_eq}
 use Rattle.mo_values.specs.Shapes.{Bytes}
 use Rattle.typed_tree.specs.declared.program.Method.{Method as Written}

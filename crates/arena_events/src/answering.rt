@@ -5,18 +5,16 @@ ghost use Rattle.arena_equality.specs.Own.{AreOwnLabels};
 ghost use Rattle.arena_executions.specs.Giving.{IsGivenWithin};
 ghost use Rattle.arena_actors.specs.States.{IsSound};
 ghost use Rattle.arena_events.specs.Answering.{body_of, broken, no_effects, open_at, placed, taken, waiting_in, IsAnswered, IsAnsweredAt, IsBroken, IsGoingOn, IsGoingWith};
-ghost use Rattle.arena_events.specs.Books.{state_set};
+ghost use Rattle.arena_outcomes.specs.Books.{state_set};
 
 use crate::calling::trapping;
-use crate::closing::{close, is_open};
-use crate::committing::completed;
 use crate::filling::{Received, filled_by, given, place_of};
-use crate::items::trap_items;
-use crate::lists::{with_activation, with_state, with_table};
-use crate::ran::{Done, Ending, Lived, Over, Ran};
-use crate::running::run_waiting;
 use arena_actors::{Activation, Actor, Body, Filled, Made, copied_actor};
 use arena_executions::Given;
+use arena_outcomes::{
+    Done, Ending, Lived, Over, Ran, close, completed, is_open, run_waiting, trap_items,
+    with_activation, with_state, with_table,
+};
 use arena_states::GroupOf;
 use mo_num::{Bytes, Memory, Principal, Sequence};
 use mo_types::TypeGraph;

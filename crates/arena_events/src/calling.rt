@@ -5,14 +5,13 @@ ghost use Rattle.arena_actors.specs.States.{IsSound};
 ghost use Rattle.arena_events.specs.Calling.{after_query, trapping, IsCalled, IsEntered, IsMissing, IsQueried, IsReceived, IsTold, IsTrapped};
 ghost use Rattle.arena_events.specs.Methods.{entry_of};
 
-use crate::committing::{completed, left_with};
-use crate::items::{query_items, trap_items, with_item};
-use crate::lists::with_arrival;
 use crate::methods::{Found, find_method};
-use crate::ran::{Done, Ending, Lived, Over, Ran};
-use crate::running::run_entered;
 use arena_actors::{Activation, Actor, copied_actor, copied_types};
 use arena_bodies::Entered;
+use arena_outcomes::{
+    Done, Ending, Lived, Over, Ran, completed, left_with, query_items, run_entered, trap_items,
+    with_arrival, with_item,
+};
 use arena_reading::read_values;
 use arena_states::GroupOf;
 use mo_num::{Bytes, Memory, Principal, Sequence};

@@ -6,8 +6,8 @@ use Rattle.play_script.specs.declared.item.Word.TheVariants as word
 use Rattle.mo_values.specs.Shapes.{Bytes}
 use Rattle.arena_states.specs.declared.group.GroupOf.{GroupOf}
 use Rattle.arena_actors.specs.declared.actor.Actor.{Actor}
-use Rattle.arena_events.specs.declared.ran.Over.{Over}
-use Rattle.arena_events.specs.Books.{closed}
+use Rattle.arena_outcomes.specs.declared.ran.Over.{Over}
+use Rattle.arena_outcomes.specs.Books.{closed}
 use Rattle.arena_events.proofs.answering.broken_off.Goals as goal
 
 pub returns : goal.returns

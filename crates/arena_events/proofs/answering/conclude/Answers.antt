@@ -1,7 +1,7 @@
 use Rattle.std.proofs.Common.{List, subst, ap, ◌∙◌}
 use Rattle.arena_actors.specs.declared.actor.Filled.{Filled}
 use Rattle.arena_actors.specs.declared.actor.Made.{Made}
-use Rattle.arena_events.specs.declared.ran.Ran.TheVariants as ran
+use Rattle.arena_outcomes.specs.declared.ran.Ran.TheVariants as ran
 use Rattle.arena_events.specs.Answering.{IsGoingOn}
 use Rattle.arena_events.specs.Filling.{place_of, received_as}
 use Rattle.arena_events.proofs.Answered.{answered_completes, answered_still, answered_traps, placed_some}

@@ -1,6 +1,6 @@
 use Rattle.std.proofs.Common.{sym, subst, ◌∙◌}
 use Rattle.std.proofs.lemmas.Result.{IfOk-weaker}
-use Rattle.arena_events.specs.declared.ran.Ran.{Ran}
+use Rattle.arena_outcomes.specs.declared.ran.Ran.{Ran}
 use Rattle.arena_events.specs.Answering.{IsGoingOn}
 use Rattle.arena_events.proofs.Answered.{unread_going}
 use Rattle.arena_events.proofs.Assembled.{filled_going, filled_sound}

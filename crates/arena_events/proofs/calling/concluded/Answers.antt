@@ -1,8 +1,8 @@
 use Rattle.std.proofs.Common.{ℕ, List, Bool, refl, sym, ap, subst, ◌∙◌}
 use Rattle.mo_values.specs.Shapes.{Bytes}
-use Rattle.arena_events.specs.declared.ran.Lived.TheVariants as lived
-use Rattle.arena_events.specs.declared.ran.Ran.{Ran}
-use Rattle.arena_events.specs.Books.{completed}
+use Rattle.arena_outcomes.specs.declared.ran.Lived.TheVariants as lived
+use Rattle.arena_outcomes.specs.declared.ran.Ran.{Ran}
+use Rattle.arena_outcomes.specs.Books.{completed}
 use Rattle.arena_events.specs.Calling.{IsCompletedBy, IsTold, IsTrapped}
 use Rattle.arena_events.proofs.calling.concluded.Goals as goal
 

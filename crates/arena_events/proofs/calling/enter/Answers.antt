@@ -2,10 +2,10 @@ use Rattle.std.proofs.Common.{List, sym, subst, ◌∙◌}
 use Rattle.std.proofs.lemmas.Result.{IfOk-weaker}
 use Rattle.value_arena.specs.declared.node.ValueId.{ValueId}
 use Rattle.value_arena.specs.Growth.{AreWithin}
-use Rattle.arena_events.specs.declared.ran.Ran.{Ran}
+use Rattle.arena_outcomes.specs.declared.ran.Ran.{Ran}
 use Rattle.arena_events.specs.Calling.{IsEntered}
 use Rattle.arena_events.specs.Methods.{entry_of}
-use Rattle.arena_events.specs.Running.{IsMethod}
+use Rattle.arena_outcomes.specs.Running.{IsMethod}
 use Rattle.arena_events.proofs.Assembled.{arrived_entered, here, here_sound, read_within}
 use Rattle.arena_events.proofs.Calls.{unread_entered}
 use Rattle.arena_events.proofs.calling.enter.Goals as goal

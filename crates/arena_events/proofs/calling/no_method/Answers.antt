@@ -5,9 +5,9 @@ use Rattle.play_script.specs.declared.item.Item.TheVariants as item
 use Rattle.mo_values.specs.Shapes.{Bytes}
 use Rattle.mo_actor.specs.States.{IsAnswered}
 use Rattle.arena_actors.specs.declared.actor.Activation.TheVariants as activation
-use Rattle.arena_events.specs.Leaving.{IsLeftWith}
+use Rattle.arena_outcomes.specs.Leaving.{IsLeftWith}
 use Rattle.arena_events.proofs.Calls.{missing_so, plain_answered}
-use Rattle.arena_events.proofs.Grown.{left_so}
+use Rattle.arena_outcomes.proofs.Grown.{left_so}
 use Rattle.arena_events.proofs.calling.no_method.Goals as goal
 
 pub returns : goal.returns

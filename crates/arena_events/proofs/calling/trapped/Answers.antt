@@ -4,7 +4,7 @@ use Rattle.play_script.specs.declared.item.Item.{Item}
 use Rattle.play_script.specs.declared.item.Item.TheVariants as item
 use Rattle.play_script.specs.declared.item.Word.TheVariants as word
 use Rattle.arena_actors.specs.declared.actor.Activation.TheVariants as activation
-use Rattle.arena_events.specs.Leaving.{IsLeftWith}
+use Rattle.arena_outcomes.specs.Leaving.{IsLeftWith}
 use Rattle.arena_events.proofs.calling.trapped.Goals as goal
 
 pub returns : goal.returns

@@ -1,6 +1,0 @@
-use Rattle.std.proofs.Common.{◌≡◌, ◌++◌, map}
-use Rattle.arena_events.specs.Books.{opened}
-use Rattle.arena_events.proofs.lists.with_calls.Given as goal
-
-abbrev pub invariant-loop-call : goal.invariant-loop-call
-invariant-loop-call l = l.all ≡ l.fn.made ++ map (λ c. opened l.owner c) l.yielded

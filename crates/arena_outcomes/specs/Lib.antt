@@ -1,0 +1,4 @@
+pub mod Books
+pub mod Leaving
+pub mod Ends
+pub mod Running

@@ -1,0 +1,6 @@
+//! Steppers of well-typed programs are never stuck. Each function of `laws` does nothing, and its contract is a theorem about it.
+#![tactic(auto)]
+
+mod laws;
+
+pub use laws::steppers_go_on;

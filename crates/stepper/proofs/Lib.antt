@@ -1,0 +1,9 @@
+pub mod Repeats
+pub mod Named
+pub mod Follows
+pub mod Lives
+pub mod Installs
+pub mod Upgrades
+pub mod Steps
+pub mod Reached
+pub mod Runs
