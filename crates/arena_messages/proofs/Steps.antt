@@ -6,7 +6,6 @@ use Rattle.mo_types.specs.declared.datum.Datum.{Datum}
 use Rattle.mo_types.specs.declared.node.Node.{Node}
 use Rattle.mo_types.specs.declared.node.Node.TheVariants as node
 use Rattle.mo_types.specs.Values as message
-use Rattle.mo_types.specs.Values.{flat}
 use Rattle.mo_types.specs.Heads.{is_any}
 use Rattle.mo_values.specs.Messages.{count, part_at, types_inside, message_of, function_at, both, plain_at, plain_each}
 use Rattle.mo_values.specs.Shapes.{Head, Shapes, Made, Function, NoShape, AShape, size_all}

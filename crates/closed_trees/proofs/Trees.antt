@@ -17,7 +17,7 @@ use Rattle.typed_tree.specs.declared.expression.TypedExpression.{TypedExpression
 use Rattle.typed_tree.specs.declared.pattern.TypedPattern.{TypedPattern}
 use Rattle.typed_tree.specs.ActionTypes.{Context}
 use Rattle.typed_tree.specs.Instances.{MentionsOnly}
-use Rattle.typed_tree.specs.Language.{Exp, Name, Do, NoExp, AnExp, let_in}
+use Rattle.typed_tree.specs.Language.{Exp, Do, NoExp, AnExp, let_in}
 use Rattle.typed_tree.specs.MemberTypes as member
 use Rattle.typed_tree.specs.Patterns.{Pat, Wildcard, Bind}
 use Rattle.typed_tree.specs.PatternTypes.{IsInScope}
