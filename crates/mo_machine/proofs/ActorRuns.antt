@@ -25,8 +25,8 @@ use Rattle.mo_meaning.specs.Acts.{Given}
 use Rattle.mo_meaning.specs.Coding.{Coding}
 use Rattle.mo_meaning.specs.Kernel.{kernel, Entry, Kept}
 use Rattle.mo_machine.specs.ActorLanguage.{machine, Fields, Waiting, Body, unload_fields, unload_waiting, unload_body, unload_effects, on_progress}
-use Rattle.mo_machine.specs.States.{TypedActor, by_states, by_meaning}
-use Rattle.mo_machine.proofs.ActorsAlike.{unload_activation, unload_actor, get_map, length_map, append_map, waiting_same, arrived_same, AlikeOutcomes, rejected_alike, update_alike, query_alike, answer_alike}
+use Rattle.mo_machine.specs.States.{TypedActor, by_states, by_meaning, unload_activation, unload_actor, UnloadsTo, WithoutActor, WithActor}
+use Rattle.mo_machine.proofs.ActorsAlike.{get_map, length_map, append_map, waiting_same, arrived_same, AlikeOutcomes, rejected_alike, update_alike, query_alike, answer_alike}
 use Rattle.mo_machine.proofs.CoursesAlike.{on_result, progress_id, AlikeCourses, comes, alike_over}
 use Rattle.mo_machine.proofs.States.{enters_alike, runs_alike, starts_alike, saves_alike}
 
@@ -147,33 +147,29 @@ module _ (coding : Coding) (own : List ℕ) (x : TypedActor) where
 -- ---- states of actors
 
 module _ (coding : Coding) (own : List ℕ) where
-  data AlikeStates : ActorState machine → ActorState kernel → Type 0 where
-    none : (made : ℕ) (xs : List (Activation machine)) → AlikeStates (NoActor made xs) (NoActor made (map unload_activation xs))
-    runs : (x : TypedActor) (a : Actor machine) → AlikeStates (Running (by_states coding x) a) (Running (by_meaning coding x) (unload_actor a))
-
   abbrev Alike : Course (ActorState machine) → Course (ActorState kernel) → Type 0
-  Alike c d = AlikeCourses AlikeStates c d
+  Alike c d = AlikeCourses (UnloadsTo coding) c d
 
-  runs_at : (x : TypedActor) (a : Actor machine) (b : Actor kernel) → b ≡ unload_actor a → AlikeStates (Running (by_states coding x) a) (Running (by_meaning coding x) b)
-  runs_at x a b e = subst (λ c. AlikeStates (Running (by_states coding x) a) (Running (by_meaning coding x) c)) (sym e) (runs x a)
+  runs_at : (x : TypedActor) (a : Actor machine) (b : Actor kernel) → b ≡ unload_actor a → UnloadsTo coding (Running (by_states coding x) a) (Running (by_meaning coding x) b)
+  runs_at x a b e = subst (λ c. UnloadsTo coding (Running (by_states coding x) a) (Running (by_meaning coding x) c)) (sym e) (WithActor x a)
 
   in_life_alike : (x : TypedActor) (e : Event) (a : Actor machine) → Alike (in_life (by_states coding x) own e a) (in_life (by_meaning coding x) own e (unload_actor a))
   in_life_alike x e a =
-      alike_over AlikeActors AlikeStates (Running (by_states coding x)) (Running (by_meaning coding x)) (runs_at x)
+      alike_over AlikeActors (UnloadsTo coding) (Running (by_states coding x)) (Running (by_meaning coding x)) (runs_at x)
       (life_course (by_states coding x) own e a) (life_course (by_meaning coding x) own e (unload_actor a)) (life_alike coding own x e a)
 
   -- ---- installations and upgrades
 
   installed_alike : (x : TypedActor) (made : ℕ) (xs : List (Activation machine)) (r : Result Fields)
       → ((installed (by_meaning coding x) made (map unload_activation xs) (on_result unload_fields r)).items ≡ (installed (by_states coding x) made xs r).items)
-      × AlikeStates (installed (by_states coding x) made xs r).next (installed (by_meaning coding x) made (map unload_activation xs) (on_result unload_fields r)).next
-  installed_alike x made xs (Completed prints weight store) = (refl, runs x (started made xs store weight))
-  installed_alike x made xs (Trapped prints text) = (refl, none made xs)
-  installed_alike x made xs (Exhausted prints cause) = (refl, none made xs)
+      × UnloadsTo coding (installed (by_states coding x) made xs r).next (installed (by_meaning coding x) made (map unload_activation xs) (on_result unload_fields r)).next
+  installed_alike x made xs (Completed prints weight store) = (refl, WithActor x (started made xs store weight))
+  installed_alike x made xs (Trapped prints text) = (refl, WithoutActor made xs)
+  installed_alike x made xs (Exhausted prints cause) = (refl, WithoutActor made xs)
 
   install_alike : (made : ℕ) (xs : List (Activation machine)) (o : Option TypedActor)
       → Alike (install_course own made xs (map_option (by_states coding) o)) (install_course own made (map unload_activation xs) (map_option (by_meaning coding) o))
-  install_alike made xs None = (refl, none made xs)
+  install_alike made xs None = (refl, WithoutActor made xs)
   install_alike made xs (Some x) = (unload_fields, refl, refl, λ n. starts_alike coding x.first x.types x.program own None n, λ r. installed_alike x made xs r)
 
   saving_if : (x : TypedActor) (a : Actor machine) (none_open : Bool) (n : ℕ)
@@ -185,21 +181,21 @@ module _ (coding : Coding) (own : List ℕ) where
 
   upgraded_alike : (x y : TypedActor) (a : Actor machine) (before : List (List ℕ)) (r : Result Fields)
       → ((upgraded (by_meaning coding x) (unload_actor a) (by_meaning coding y) before (on_result unload_fields r)).items ≡ (upgraded (by_states coding x) a (by_states coding y) before r).items)
-      × AlikeStates (upgraded (by_states coding x) a (by_states coding y) before r).next (upgraded (by_meaning coding x) (unload_actor a) (by_meaning coding y) before (on_result unload_fields r)).next
-  upgraded_alike x y a before (Completed prints weight store) = (refl, runs y (started (next_number a.table) a.activations store weight))
-  upgraded_alike x y a before (Trapped prints text) = (refl, runs x a)
-  upgraded_alike x y a before (Exhausted prints cause) = (refl, runs x a)
+      × UnloadsTo coding (upgraded (by_states coding x) a (by_states coding y) before r).next (upgraded (by_meaning coding x) (unload_actor a) (by_meaning coding y) before (on_result unload_fields r)).next
+  upgraded_alike x y a before (Completed prints weight store) = (refl, WithActor y (started (next_number a.table) a.activations store weight))
+  upgraded_alike x y a before (Trapped prints text) = (refl, WithActor x a)
+  upgraded_alike x y a before (Exhausted prints cause) = (refl, WithActor x a)
 
   saved_alike : (x y : TypedActor) (a : Actor machine) (r : Result Kept)
       → Alike (saved own (by_states coding x) a (by_states coding y) r) (saved own (by_meaning coding x) (unload_actor a) (by_meaning coding y) (on_result (λ k. k) r))
   saved_alike x y a (Completed prints weight kept) =
       (unload_fields, refl, refl, λ n. starts_alike coding y.first y.types y.program own (Some kept) n, λ r. upgraded_alike x y a prints r)
-  saved_alike x y a (Trapped prints text) = (refl, runs x a)
-  saved_alike x y a (Exhausted prints cause) = (refl, runs x a)
+  saved_alike x y a (Trapped prints text) = (refl, WithActor x a)
+  saved_alike x y a (Exhausted prints cause) = (refl, WithActor x a)
 
   upgrade_alike : (x : TypedActor) (a : Actor machine) (o : Option TypedActor)
       → Alike (upgrade_course own (by_states coding x) a (map_option (by_states coding) o)) (upgrade_course own (by_meaning coding x) (unload_actor a) (map_option (by_meaning coding) o))
-  upgrade_alike x a None = (refl, runs x a)
+  upgrade_alike x a None = (refl, WithActor x a)
   upgrade_alike x a (Some y) = (λ k. k, refl, refl, λ n. saving_if x a (nat_eq (open_count a.table) 0) n, λ r. saved_alike x y a r)
 
   -- ---- events and runs
@@ -211,35 +207,35 @@ module _ (coding : Coding) (own : List ℕ) where
     abbrev news : List (actor.Program kernel)
     news = map (by_meaning coding) actors
 
-    no_canister : (made : ℕ) (xs : List (Activation machine)) → AlikeStates (NoActor made (xs ++ IsAnswered ∷ [])) (NoActor made (map unload_activation xs ++ IsAnswered ∷ []))
+    no_canister : (made : ℕ) (xs : List (Activation machine)) → UnloadsTo coding (NoActor made (xs ++ IsAnswered ∷ [])) (NoActor made (map unload_activation xs ++ IsAnswered ∷ []))
     no_canister made xs =
-        subst (λ ys. AlikeStates (NoActor made (xs ++ IsAnswered ∷ [])) (NoActor made ys)) (append_map unload_activation xs (IsAnswered ∷ [])) (none made (xs ++ IsAnswered ∷ []))
+        subst (λ ys. UnloadsTo coding (NoActor made (xs ++ IsAnswered ∷ [])) (NoActor made ys)) (append_map unload_activation xs (IsAnswered ∷ [])) (WithoutActor made (xs ++ IsAnswered ∷ []))
 
-    event_alike : (e : Event) (s : ActorState machine) (t : ActorState kernel) → AlikeStates s t → Alike (event_course olds own e s) (event_course news own e t)
-    event_alike (event.Install number) _ _ (none made xs) =
+    pub event_alike : (e : Event) (s : ActorState machine) (t : ActorState kernel) → UnloadsTo coding s t → Alike (event_course olds own e s) (event_course news own e t)
+    event_alike (event.Install number) _ _ (WithoutActor made xs) =
         subst (λ o. Alike (install_course own made xs o) (install_course own made (map unload_activation xs) (slice_get news number))) (sym (get_map (by_states coding) actors number))
         (subst (λ o. Alike (install_course own made xs (map_option (by_states coding) (slice_get actors number))) (install_course own made (map unload_activation xs) o)) (sym (get_map (by_meaning coding) actors number))
         (install_alike made xs (slice_get actors number)))
-    event_alike (event.Call query name caller bytes) _ _ (none made xs) =
+    event_alike (event.Call query name caller bytes) _ _ (WithoutActor made xs) =
         (ap (λ n. item.Rejected n 3 (codes "no canister") ∷ []) (length_map unload_activation xs), no_canister made xs)
-    event_alike (event.Reply number bytes) _ _ (none made xs) = (refl, none made xs)
-    event_alike (event.Reject number code text) _ _ (none made xs) = (refl, none made xs)
-    event_alike (event.Upgrade number) _ _ (none made xs) = (refl, none made xs)
-    event_alike (event.Install number) _ _ (runs x a) = tt
-    event_alike (event.Call query name caller bytes) _ _ (runs x a) = in_life_alike x (event.Call query name caller bytes) a
-    event_alike (event.Reply number bytes) _ _ (runs x a) = in_life_alike x (event.Reply number bytes) a
-    event_alike (event.Reject number code text) _ _ (runs x a) = in_life_alike x (event.Reject number code text) a
-    event_alike (event.Upgrade number) _ _ (runs x a) =
+    event_alike (event.Reply number bytes) _ _ (WithoutActor made xs) = (refl, WithoutActor made xs)
+    event_alike (event.Reject number code text) _ _ (WithoutActor made xs) = (refl, WithoutActor made xs)
+    event_alike (event.Upgrade number) _ _ (WithoutActor made xs) = (refl, WithoutActor made xs)
+    event_alike (event.Install number) _ _ (WithActor x a) = tt
+    event_alike (event.Call query name caller bytes) _ _ (WithActor x a) = in_life_alike x (event.Call query name caller bytes) a
+    event_alike (event.Reply number bytes) _ _ (WithActor x a) = in_life_alike x (event.Reply number bytes) a
+    event_alike (event.Reject number code text) _ _ (WithActor x a) = in_life_alike x (event.Reject number code text) a
+    event_alike (event.Upgrade number) _ _ (WithActor x a) =
         subst (λ o. Alike (upgrade_course own (by_states coding x) a o) (upgrade_course own (by_meaning coding x) (unload_actor a) (slice_get news number))) (sym (get_map (by_states coding) actors number))
         (subst (λ o. Alike (upgrade_course own (by_states coding x) a (map_option (by_states coding) (slice_get actors number))) (upgrade_course own (by_meaning coding x) (unload_actor a) o)) (sym (get_map (by_meaning coding) actors number))
         (upgrade_alike x a (slice_get actors number)))
 
     module _ (pays : Measure) where
-      from_states : (events : List Event) (s : ActorState machine) (t : ActorState kernel) → AlikeStates s t → (items : List Item) → RunsFrom pays olds own s events items → RunsFrom pays news own t events items
+      from_states : (events : List Event) (s : ActorState machine) (t : ActorState kernel) → UnloadsTo coding s t → (items : List Item) → RunsFrom pays olds own s events items → RunsFrom pays news own t events items
       from_states [] s t a items h = h
       from_states (e ∷ events) s t a items h =
-          let r = comes AlikeStates pays (event_course olds own e s) (event_course news own e t) (event_alike e s t a) h.0 h.1 in
+          let r = comes (UnloadsTo coding) pays (event_course olds own e s) (event_course news own e t) (event_alike e s t a) h.0 h.1 in
           (r.0, r.1, h.2, h.3 ∙ ap (λ is. is ++ h.2) (sym r.2), from_states events (h.0).next (r.0).next r.3 h.2 h.4)
 
       pub run_alike : (events : List Event) (items : List Item) → ActorRun pays olds own events items → ActorRun pays news own events items
-      run_alike events items h = from_states events (NoActor 0 []) (NoActor 0 []) (none 0 []) items h
+      run_alike events items h = from_states events (NoActor 0 []) (NoActor 0 []) (WithoutActor 0 []) items h

@@ -15,16 +15,8 @@ use Rattle.mo_actor.specs.States.{Activation, IsAnswered, IsDead, WaitsFor, Wait
 use Rattle.mo_meaning.specs.Acts.{Given}
 use Rattle.mo_meaning.specs.Kernel.{kernel}
 use Rattle.mo_machine.specs.ActorLanguage.{machine, Waiting, unload_fields, unload_waiting, call_of_meaning, unload_ending, unload_effects}
+use Rattle.mo_machine.specs.States.{unload_activation, unload_actor}
 use Rattle.mo_machine.proofs.CoursesAlike.{on_result}
-
-abbrev pub unload_activation : Activation machine → Activation kernel
-unload_activation IsAnswered = IsAnswered
-unload_activation IsDead = IsDead
-unload_activation (WaitsFor number w) = WaitsFor number (unload_waiting w)
-unload_activation WaitsForNothing = WaitsForNothing
-
-abbrev pub unload_actor : Actor machine → Actor kernel
-unload_actor a = record { store = unload_fields a.store; table = a.table; activations = map unload_activation a.activations; charged = a.charged }
 
 -- ---- lists
 

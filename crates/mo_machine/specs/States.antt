@@ -1,11 +1,12 @@
 -- A typed program as the machine runs it: an actor that keeps the machine's states. Each of its executions stands for that of
 -- the meaning.
-use Rattle.std.specs.Prelude.{◌≡◌, ℕ, List, Option, Some, None}
+use Rattle.std.specs.Prelude.{◌≡◌, ℕ, List, map, Option, Some, None}
 use Rattle.mo_types.specs.declared.node.TypeId.{TypeId}
 use Rattle.mo_types.specs.Calls.{CallTable}
 use Rattle.mo_types.specs.Heads.{map_option}
 use Rattle.mo_values.specs.Shapes.{Bytes}
 use Rattle.mo_actor.specs.Programs as actor
+use Rattle.mo_actor.specs.States.{Activation, IsAnswered, IsDead, WaitsFor, WaitsForNothing, Actor, ActorState, NoActor, Running}
 use Rattle.typed_tree.specs.Language as typed
 use Rattle.typed_tree.specs.Programs.{Program}
 use Rattle.mo_meaning.specs.Acts.{Given}
@@ -73,3 +74,20 @@ module _ (coding : Coding) where
 
   abbrev pub by_meaning : TypedActor → actor.Program kernel
   by_meaning a = meaning coding a.first a.types a.program
+
+-- ---- what an actor of the machine stands for
+
+abbrev pub unload_activation : Activation machine → Activation kernel
+unload_activation IsAnswered = IsAnswered
+unload_activation IsDead = IsDead
+unload_activation (WaitsFor number w) = WaitsFor number (unload_waiting w)
+unload_activation WaitsForNothing = WaitsForNothing
+
+abbrev pub unload_actor : Actor machine → Actor kernel
+unload_actor a = record { store = unload_fields a.store; table = a.table; activations = map unload_activation a.activations; charged = a.charged }
+
+module _ (coding : Coding) where
+  -- the state of the meaning that a state of the machine stands for: both without an actor, or both with one of the same typed program
+  pub data UnloadsTo : ActorState machine → ActorState kernel → Type 0 where
+    WithoutActor : (made : ℕ) (xs : List (Activation machine)) → UnloadsTo (NoActor made xs) (NoActor made (map unload_activation xs))
+    WithActor : (x : TypedActor) (a : Actor machine) → UnloadsTo (Running (by_states coding x) a) (Running (by_meaning coding x) (unload_actor a))
