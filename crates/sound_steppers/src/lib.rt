@@ -1,4 +1,5 @@
-//! Steppers of well-typed programs are never stuck. Each function of `laws` does nothing, and its contract is a theorem about it.
+//! Steppers of well-typed programs go on: no execution that they follow is stuck. Each function of `laws` does nothing, and its
+//! contract is a theorem about it.
 #![tactic(auto)]
 
 mod laws;
