@@ -18,7 +18,8 @@ use Rattle.mo_machine.specs.Values.{Value, Code as FunctionCode, shapes_list}
 use Rattle.arena_messages.proofs.Labelled.{Split, split}
 use Rattle.arena_equality.specs.Own.{AreOwnLabels}
 use Rattle.arena_equality.proofs.Typed.{plain_typed}
-use Rattle.arena_coding.proofs.Trees.{put_first, short_not_coded, tree_flat, IsFormed, IsShort}
+use Rattle.kept_forms.proofs.Trees.{tree_full, IsFull}
+use Rattle.arena_coding.proofs.Trees.{put_first, short_not_coded, IsShort}
 
 module _ (types : List Slot) (own : AreOwnLabels types) where
   abbrev head : TypeId → Node TypeId
@@ -26,7 +27,7 @@ module _ (types : List Slot) (own : AreOwnLabels types) where
 
   -- what is written is of the types, or there are fewer values
   abbrev Fits : List TypeId → Values → Type 0
-  Fits ts v = IsFormed v × (HaveTypes head ts v ⊎ IsShort head ts v)
+  Fits ts v = IsFull v × (HaveTypes head ts v ⊎ IsShort head ts v)
 
   none_left : (vs : List Values) → Some [] ≡ Some vs → [] ≡ vs
   none_left vs e = cc
@@ -53,7 +54,7 @@ module _ (types : List Slot) (own : AreOwnLabels types) where
         let f = fits ids (shapes (shapes_list vs)) ms e in
         let g : Some parts ≡ Some (flat (joined ms)) = h in
         let same : parts ≡ flat (joined ms) = cc in
-        record { values = joined ms; are = ap joined_values e; tree_is = ap tree same ∙ tree_flat (joined ms) f.0; fit = f.1 }
+        record { values = joined ms; are = ap joined_values e; tree_is = ap tree same ∙ tree_full (joined ms) f.0; fit = f.1 }
 
     found : Some parts ≡ map_option flat (plain_values types ids vs) → Found
     found h = found_by (plain_each head (map (λ t. Some t) ids) (shapes (shapes_list vs))) refl h

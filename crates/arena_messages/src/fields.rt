@@ -1,11 +1,10 @@
 //! Fields by their labels.
-ghost use Rattle.std.specs.Prelude.{◌≡◌, ℕ, is_some, map, reverse, IfOk};
+ghost use Rattle.std.specs.Prelude.{◌≡◌, ℕ, is_some, map};
 ghost use Rattle.mo_types.specs.Values.{by_label};
 ghost use Rattle.mo_values.specs.Messages.{all_there, labels, place, types, under};
 
-use mo_num::{Bytes, Memory};
-use mo_types::{Field, TypeId, label_id};
-use std::alloc::Global;
+use mo_num::Bytes;
+use mo_types::{Field, TypeId};
 use value_arena::{ValueId, same_bytes};
 
 /// The type under the first label that is this one.
@@ -72,33 +71,6 @@ pub(crate) fn all_there(fields: &[Field], labels: &[Bytes]) -> bool
         }
     }
     true
-}
-
-fn reversed<T>(items: Vec<T>) -> Vec<T>
-    ensures { result.items ≡ reverse items.items }
-{
-    let mut items = items;
-    items.as_mut_slice().reverse();
-    items
-}
-
-fn sorted<'a>(unsorted: Vec<&'a Field>) -> Result<Vec<&'a Field>, Memory>
-    ensures { IfOk result (λ order. map (λ f. f.now) order.items ≡ by_label (map (λ f. f.now) unsorted.entry.items)) }
-{
-    let mut order = reversed(unsorted);
-    order.sort_by_key(|field| label_id(field.label.as_slice()))?;
-    Ok(order)
-}
-
-/// The fields in the rising order of the numbers of their labels. Of equal ones the last comes first.
-pub(crate) fn in_order<'a>(alloc: Global, fields: &'a [Field]) -> Result<Vec<&'a Field>, Memory>
-    ensures { IfOk result (λ order. map (λ f. f.now) order.items ≡ by_label fields.now) }
-{
-    let mut order = Vec::with_capacity(alloc, fields.len())?;
-    for field in fields {
-        order.push(field)?;
-    }
-    sorted(order)
 }
 
 /// At which place the first field with this label stands.

@@ -14,7 +14,7 @@ use Rattle.mo_meaning.specs.Messages.{as_values}
 use Rattle.mo_machine.specs.Values as machine
 use Rattle.mo_machine.specs.Values.{gathered, load_all, load_list}
 use Rattle.arena_reading.specs.Opening.{built, put_on, types_along}
-use Rattle.arena_coding.proofs.Trees.{length_inside}
+use Rattle.kept_forms.proofs.Trees.{length_inside}
 
 take_front : {A : Type 0} (xs ys : List A) → take (length xs) (xs ++ ys) ≡ xs
 take_front [] ys = refl

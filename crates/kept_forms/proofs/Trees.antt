@@ -13,12 +13,12 @@ use Rattle.mo_types.specs.Label.{label_id}
 use Rattle.mo_types.specs.Values.{Values, Nil, Value, flat, arity, firsts, after, tree, copies, by_label, insert_field, one_type, inside, IsPartOf, HaveTypes}
 
 -- so many values stand side by side
-abbrev tops : Values → ℕ
+abbrev pub tops : Values → ℕ
 tops Nil = 0
 tops (Value p i o) = suc (tops o)
 
 -- inside each part are as many values as it says
-abbrev IsFull : Values → Type 0
+abbrev pub IsFull : Values → Type 0
 IsFull Nil = Unit {0}
 IsFull (Value p i o) = (tops i ≡ arity p) × IsFull i × IsFull o
 
@@ -43,7 +43,7 @@ tree_beside (Value p i o) ps h =
     ap (λ (t : Values). Value p (firsts (arity p) t) (after (arity p) t)) all
     ∙ ap₂ (λ (x y : Values). Value p x y) (ap (λ (n : ℕ). firsts n (beside i rest)) (sym h.0) ∙ firsts_beside i rest) (ap (λ (n : ℕ). after n (beside i rest)) (sym h.0) ∙ after_beside i rest)
 
-tree_full : (v : Values) → IsFull v → tree (flat v) ≡ v
+pub tree_full : (v : Values) → IsFull v → tree (flat v) ≡ v
 tree_full v h = ap tree (sym (append-nil (flat v))) ∙ tree_beside v [] h ∙ beside_nil v
 
 -- ---- values of types
@@ -70,7 +70,7 @@ module _ {A : Type 0} where
   length_one (f ∷ fs) zero h = refl
   length_one (f ∷ fs) (suc i) h = length_one fs i (omega arith)
 
-  length_inside : (n : Node A) (p : Datum) → IsPartOf n p → length (inside n p) ≡ arity p
+  pub length_inside : (n : Node A) (p : Datum) → IsPartOf n p → length (inside n p) ≡ arity p
   length_inside (node.Number k) (part.Number z) h = refl
   length_inside node.Bool (part.Flag x) h = refl
   length_inside node.Char (part.Char c) h = refl
@@ -90,7 +90,7 @@ module _ {A : Type 0} where
   length_inside n p h = absurd h
 
 module _ {A : Type 0} (head : A → Node A) where
-  typed_full : (ts : List A) (v : Values) → HaveTypes head ts v → (tops v ≡ length ts) × IsFull v
+  pub typed_full : (ts : List A) (v : Values) → HaveTypes head ts v → (tops v ≡ length ts) × IsFull v
   typed_full [] Nil h = (refl, tt)
   typed_full [] (Value p i o) h = absurd h
   typed_full (t ∷ ts) Nil h = absurd h
