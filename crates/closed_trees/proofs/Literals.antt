@@ -99,6 +99,10 @@ module _ (types : List Slot) (first : ℕ) (past : length types ≤ first) (e : 
     literal_has (literal.Blob x) t h = (literal_fits (literal.Blob x) t h.0 h.1, tt)
     literal_has (literal.Actor p) t h = (literal_fits (literal.Actor p) t h.0 h.1, tt)
 
+  -- the outermost part of a literal, where its type comes to another
+  pub part_there : (p : Datum) (t : TypeId) → IsPartOf (head_at types t) p → IsPartOf (expanded types first (close t)) p
+  part_there p t h = subst (λ (x : Node TypeId). IsPartOf x p) (sym (c.others t (part_plain (head_at types t) p h))) (part_closed close (head_at types t) p h)
+
   pub elements_there : (i t : TypeId) → GivesElements (head_at types) i t → GivesElements (expanded types first) (close i) (close t)
   elements_there i t h = (
     map (on_field close) h.0,

@@ -1,5 +1,6 @@
 -- A pattern that stands on a type is typed, in an environment, as one that meets values of what the type comes to.
 use Rattle.std.proofs.Common.{◌≡◌, ℕ, inl, List, [], ◌∷◌, ◌++◌, map, length, refl, sym, subst}
+use Rattle.mo_types.specs.declared.datum.Datum.TheVariants as part
 use Rattle.mo_types.specs.declared.node.Field.{Field}
 use Rattle.mo_types.specs.declared.node.Node.TheVariants as node
 use Rattle.mo_types.specs.declared.node.TypeId.{TypeId}
@@ -14,7 +15,7 @@ use Rattle.typed_tree.specs.declared.pattern.PatternField.{PatternField, roll-Pa
 use Rattle.typed_tree.specs.Instances.{MentionsOnly}
 use Rattle.typed_tree.specs.MemberTypes.{IsField}
 use Rattle.typed_tree.specs.Patterns.{Pat}
-use Rattle.typed_tree.specs.PatternTypes.{LiteralOf, EachStands, FieldsStand, Stands, FormStands, FieldStands}
+use Rattle.typed_tree.specs.PatternTypes.{LiteralOf, IsPlainLiteral, EachStands, FieldsStand, Stands, FormStands, FieldStands}
 use Rattle.typed_tree.specs.PatternView.{LabelledPat, form_step, field_step, pattern_step, literal_pattern, pats, pattern, pattern_form, patterns}
 use Rattle.typed_tree.specs.Types.{AreLawful}
 use Rattle.typed_tree.specs.TypingLaws.{form_standing, field_standing, pattern_standing}
@@ -31,6 +32,7 @@ use Rattle.mo_soundness.specs.Lawful.{IsLawful}
 use Rattle.mo_soundness.specs.RunningPatterns.{FieldTypes, PatternTyped, PatternsTyped}
 use Rattle.std.specs.Prelude.{◌≤◌}
 use Rattle.closed_trees.specs.Seen.{SeesAll}
+use Rattle.closed_trees.proofs.Literals.{part_there}
 use Rattle.closed_trees.proofs.Seen.{sees_append, sees_as, sees_self}
 
 -- ---- what a layer stands for
@@ -87,15 +89,20 @@ module _ (types : List Slot) (first : ℕ) (past : length types ≤ first) (grap
   no_names : (ns : List (Want TypeId)) → ns ≡ [] → SeesAll types first vs e ns []
   no_names ns q = sees_as types first vs e ns [] [] q tt
 
-  literal_typed : (l : Literal) (s t : TypeId) → Below (head_at types) t s → LiteralOf (head_at types) l s → PatternTyped (expanded types first) (literal_pattern l) (close t) []
-  literal_typed literal.Unit s t b h = (close s, [], below t s b, at (head_at types) (expanded types first) c s (node.Tuple []) h refl, refl)
-  literal_typed literal.Null s t b h = refl
-  literal_typed (literal.Flag f) s t b h = refl
-  literal_typed (literal.Number n) s t b h = refl
-  literal_typed (literal.Character k) s t b h = refl
-  literal_typed (literal.Text x) s t b h = refl
-  literal_typed (literal.Blob x) s t b h = refl
-  literal_typed (literal.Actor p) s t b h = refl
+  literal_typed : (l : Literal) (s t : TypeId) → Below (head_at types) t s → LiteralOf (head_at types) l s → IsPlainLiteral l → PatternTyped (expanded types first) (literal_pattern l) (close t) []
+  literal_typed literal.Unit s t b h i = (close s, [], below t s b, at (head_at types) (expanded types first) c s (node.Tuple []) h refl, refl)
+  literal_typed literal.Null s t b h i = (close s, below t s b, tt, inl (part_there types first past e part.Null s h.1), refl)
+  literal_typed (literal.Flag f) s t b h i = (close s, below t s b, tt, inl (part_there types first past e (part.Flag f) s h.1), refl)
+  literal_typed (literal.Number n) s t b h i = (close s, below t s b, tt, inl (part_there types first past e (part.Number n) s h.1), refl)
+  literal_typed (literal.Character k) s t b h i = (close s, below t s b, tt, inl (part_there types first past e (part.Char k) s h.1), refl)
+  literal_typed (literal.Text x) s t b h i = (close s, below t s b, tt, inl (part_there types first past e (part.Text x) s h.1), refl)
+  literal_typed (literal.Blob x) s t b h i = (close s, below t s b, tt, inl (part_there types first past e (part.Blob x) s h.1), refl)
+  literal_typed (literal.Actor p) s t b h i = absurd i
+
+  -- a pattern without names has none in the environment either
+  no_name : (p : Pat) (t : TypeId) (ms : List (Want TypeId)) → SeesAll types first vs e [] ms → PatternTyped (expanded types first) p (close t) ms → PatternTyped (expanded types first) p (close t) []
+  no_name p t [] q h = h
+  no_name p t (m ∷ ms) q h = absurd q
 
   abbrev AllMeet : List TypedPattern → List TypeId → List (Want TypeId) → Type 0
   AllMeet ps ts ns = (ms : List (Want TypeId)) × SeesAll types first vs e ns ms × PatternsTyped (expanded types first) (pats (map pattern ps)) (map close ts) ms
@@ -131,7 +138,7 @@ module _ (types : List Slot) (first : ℕ) (past : length types ≤ first) (grap
       → Meets (form_view (map-PatternForm K0 K1 K2 PatternForm PatternField TypedPattern (λ z. z.0) (λ z. z.0) (λ z. z.0) y)) t ns
   form_typed P.Wildcard s t ns m b h = ([], no_names ns h, refl)
   form_typed P.Bind s t ns m b h = (Of (close s) ∷ [], sees_as types first vs e ns (Of s ∷ []) (Of (close s) ∷ []) h ((close s, refl, sees_self types first lawful vs e s m), tt), (close s, below t s b, refl))
-  form_typed (P.Constant l) s t ns m b h = ([], no_names ns h.2, literal_typed l s t b h.0)
+  form_typed (P.Constant l) s t ns m b h = ([], no_names ns h.2, literal_typed l s t b h.0 h.1)
   form_typed (P.Present p) s t ns m b h =
       let k = p.1 h.0 ns h.2 in
       (k.0, k.1, (close s, close h.0, below t s b, inl (at (head_at types) (expanded types first) c s (node.Opt h.0) h.1 refl), k.2))
@@ -144,7 +151,10 @@ module _ (types : List Slot) (first : ℕ) (past : length types ≤ first) (grap
   form_typed (P.Fields xs) s t ns m b h =
       let k = fields_typed xs h.0 ns h.2 in
       (k.1, k.2, (close s, map (on_field close) h.0, k.0, below t s b, at (head_at types) (expanded types first) c s (node.Object h.0) h.1 refl, k.3, k.4))
-  form_typed (P.Either p q) s t ns m b h = ([], no_names ns h.2, refl)
+  form_typed (P.Either p q) s t ns m b h =
+      let k = p.1 s [] h.0 in
+      let l = q.1 s [] h.1 in
+      ([], no_names ns h.2, (close s, below t s b, no_name (pattern p.0) s k.0 k.1 k.2, no_name (pattern q.0) s l.0 l.1 l.2, refl))
 
   form_case : (y : P.PatternForm-F K0 K1 K2) → FormClaim (roll-PatternForm (map-PatternForm K0 K1 K2 PatternForm PatternField TypedPattern (λ z. z.0) (λ z. z.0) (λ z. z.0) y))
   form_case y s t ns m b h = subst (λ (p : Pat). Meets p t ns) (sym (form_viewed _)) (form_typed y s t ns m b ((rules.pattern_forms types vs _ s ns).0 h))

@@ -500,7 +500,7 @@ module _ (types : List Slot) (first : ℕ) (past : length types ≤ first) (grap
       let kept : R answers (around_in types first e ms c) (kept_or n (expression x.0)) (Of (close e h.0)) = (
         KeptOf r.0,
         (KeptOf r.0, u.1 ∙ ap Some r.1, equal_self head lawful r.0),
-        ([], refl, x.1 answers c e ms _ p h.2, (Of r.0 ∷ [], refl, (Of r.0, refl, r.2.1.1), tt)),
+        ([], (refl, refl), x.1 answers c e ms _ p h.2, (Of r.0 ∷ [], refl, (Of r.0, refl, r.2.1.1), tt)),
       ) in
       cell_opens answers c e ms ns h.0 (kept_or n (expression x.0)) r.2.0 h.3 kept
   step_opens answers (F.Functions fs) c e ms ns p h =

@@ -177,7 +177,7 @@ module _ (world : World) (answers : AnswerTypes) (kinds : List TypeId) where
       pub matches_typed : (p : Pat) (t : TypeId) (ns : List (Want TypeId)) → PatternTyped world.head p t ns → (s : Shape Code) → Has (Of t) (value_of s) → Matched ns (matches p s)
       matches_typed Wildcard t ns h s i = subst (λ ns. HasNames ns []) (sym h) tt
       matches_typed Bind t ns h s i = subst (λ ns. HasNames ns (s ∷ [])) (sym h.2) (has_sub world lawful answers kinds (value_of s) (Of t) (Of h.0) i h.1, tt)
-      matches_typed (Constant c) t ns h s i = subst (λ ns. Matched ns (where_true (is_literal c (leaf_of s)))) (sym h) (none_typed (is_literal c (leaf_of s)))
+      matches_typed (Constant c) t ns h s i = subst (λ ns. Matched ns (where_true (is_literal c (leaf_of s)))) (sym h.4) (none_typed (is_literal c (leaf_of s)))
       matches_typed (Present? p) t ns h s i =
           there_typed ns (λ v. matches p v) (Of h.1) (λ v j. matches_typed p h.1 ns h.4 v j) (present_of s) (present_has h.0 h.1 h.3 s (has_sub world lawful answers kinds (value_of s) (Of t) (Of h.0) i h.2))
       matches_typed (Tagged l p) t ns h s i =
@@ -185,7 +185,7 @@ module _ (world : World) (answers : AnswerTypes) (kinds : List TypeId) where
       matches_typed (Parts ps) t ns h s i =
           parts_there ns (map (λ t. Of t) h.1) (λ vs. matches_all ps vs) (λ vs j. all_typed ps h.1 ns h.4 vs j) (tuple_of s) (tuple_has h.0 h.1 h.3 s (has_sub world lawful answers kinds (value_of s) (Of t) (Of h.0) i h.2))
       matches_typed (Fields ls ps) t ns h s i = fields_typed ls ps h.0 h.1 h.2 ns h.4 h.5 h.6 s (has_sub world lawful answers kinds (value_of s) (Of t) (Of h.0) i h.3)
-      matches_typed (Either p q) t ns h s i = subst (λ ns. Matched ns (first_of_both (matches p s) (matches q s))) (sym h) (either_typed (matches p s) (matches q s))
+      matches_typed (Either p q) t ns h s i = subst (λ ns. Matched ns (first_of_both (matches p s) (matches q s))) (sym h.4) (either_typed (matches p s) (matches q s))
 
       pub all_typed : (ps : Pats) (ts : List TypeId) (ns : List (Want TypeId)) → PatternsTyped world.head ps ts ns → (vs : List (Shape Code)) → HasNames (map (λ t. Of t) ts) vs → Matched ns (matches_all ps vs)
       all_typed NoPat [] ns h [] i = subst (λ ns. HasNames ns []) (sym h) tt
@@ -224,6 +224,6 @@ module _ (world : World) (answers : AnswerTypes) (kinds : List TypeId) where
     met p (Of t) ns v h i = patterns p t ns v h i
     met Wildcard w ns v h i = subst (λ ns. HasNames ns []) (sym h) tt
     met Bind w ns v h i = subst (λ ns. HasNames ns (shape_of v ∷ [])) (sym h) (subst (Has w) (sym (value_shape v)) i, tt)
-    met (Constant c) (KeptOf t) ns v h i = subst (λ ns. Matched ns (where_true (is_literal c (leaf_of (shape_of v))))) (sym h) (none_typed (is_literal c (leaf_of (shape_of v))))
+    met (Constant c) (KeptOf t) ns v h i = subst (λ ns. Matched ns (where_true (is_literal c (leaf_of (shape_of v))))) (sym h.1) (none_typed (is_literal c (leaf_of (shape_of v))))
     met (Present? Bind) (KeptOf t) ns v h i = subst (λ ns. Matched ns (matches (Present? Bind) (shape_of v))) (sym h) (kept_typed t v i)
     met p w ns v h i = absurd h

@@ -43,12 +43,12 @@ module _ (world : World) where
     pub pattern_names : (p : Pat) (t : TypeId) (ns : List (Want TypeId)) → PatternTyped world.head p t ns → length ns ≡ names p
     pattern_names Wildcard t ns h = ap length h
     pattern_names Bind t ns h = ap length h.2
-    pattern_names (Constant k) t ns h = ap length h
+    pattern_names (Constant k) t ns h = ap length h.4
     pattern_names (Present? p) t ns h = pattern_names p h.1 ns h.4
     pattern_names (Tagged l p) t ns h = pattern_names p h.2.part ns h.6
     pattern_names (Parts ps) t ns h = patterns_names ps h.1 ns h.4
     pattern_names (Fields ls ps) t ns h = patterns_names ps h.2 ns h.6
-    pattern_names (Either p q) t ns h = ap length h
+    pattern_names (Either p q) t ns h = ap length h.4
 
     pub patterns_names : (ps : Pats) (ts : List TypeId) (ns : List (Want TypeId)) → PatternsTyped world.head ps ts ns → length ns ≡ names_all ps
     patterns_names NoPat [] ns h = ap length h
@@ -60,7 +60,7 @@ module _ (world : World) where
   binds_names p (Of t) ns h = pattern_names p t ns h
   binds_names Wildcard a ns h = ap length h
   binds_names Bind a ns h = ap length h
-  binds_names (Constant c) (KeptOf t) ns h = ap length h
+  binds_names (Constant c) (KeptOf t) ns h = ap length h.1
   binds_names (Present? Bind) (KeptOf t) ns h = ap length h
   binds_names p a ns h = absurd h
 

@@ -5,6 +5,7 @@ use Rattle.mo_types.specs.declared.datum.Datum.TheVariants as part
 use Rattle.mo_types.specs.declared.node.Node.TheVariants as node
 use Rattle.mo_types.specs.declared.node.Sort.TheVariants as sort
 use Rattle.mo_types.specs.declared.node.TypeId.{TypeId}
+use Rattle.mo_types.specs.Values.{IsPartOf}
 use Rattle.mo_values.specs.declared.operation.Operation.TheVariants as op
 use Rattle.mo_num.specs.declared.kind.Kind.TheVariants as kind
 use Rattle.mo_values.specs.Costs.{Cost, weighing, operation_cost}
@@ -31,7 +32,7 @@ use Rattle.mo_meaning.specs.Places.{inside, value_or, and_value, all_values, val
 use Rattle.mo_meaning.specs.Reduce.{chosen, turn_of, reduce, reduce_operand}
 use Rattle.mo_soundness.specs.Keeps.{IsLonger, IsNoValue, closed, HasEach, Keeps, Suits}
 use Rattle.mo_soundness.specs.Lawful.{IsLawful}
-use Rattle.mo_soundness.specs.RunningPatterns.{MayHold, PatternTyped}
+use Rattle.mo_soundness.specs.RunningPatterns.{MayHold, MayBe, PatternTyped}
 use Rattle.mo_soundness.specs.Running.{Around, Does, with_names, AnswerTypes, HasValue, Typed, EachTyped, CasesTyped, FunctionsTyped, StoreTyped}
 use Rattle.mo_soundness.specs.Worlds.{World}
 use Rattle.mo_soundness.proofs.Actions.{acts_keep}
@@ -257,6 +258,11 @@ module _ (world : World) (lawful : IsLawful world.head) (answers : AnswerTypes) 
     may_hold o t (inl e) = inl e
     may_hold o t (inr e) = inr e.0
 
+    null_there : (o t : TypeId) → ((world.head o ≡ node.Opt t) ⊎ (((world.head o ≡ node.Null) ⊎ (world.head o ≡ node.Bottom)) × (world.head t ≡ node.Bottom))) → MayBe world.head (world.head o) part.Null
+    null_there o t (inl e) = inl (subst (λ x. IsPartOf x part.Null) (sym e) tt)
+    null_there o t (inr (inl e, d)) = inl (subst (λ x. IsPartOf x part.Null) (sym e) tt)
+    null_there o t (inr (inr e, d)) = inr e
+
     turn_typed : (ls : List TypeId) (p : Pat) (v : Value) (b : Exp) (w : Want TypeId) (i t u : TypeId) (ns : List (Want TypeId)) → GivesElements world.head i t → IsUnit world.head u → Has (Of i) v → PatternTyped world.head p t ns → Typed world answers kinds (with_names ns (closed ls)) b (Of u) → Serves world.head (Of u) w
         → T ls (turn_of p v b) w
     turn_typed ls p v b w i t u ns it iu h pt bt sv =
@@ -273,7 +279,7 @@ module _ (world : World) (lawful : IsLawful world.head) (answers : AnswerTypes) 
             called,
             (
               [],
-              refl,
+              (o, reflexive world.head lawful o, tt, null_there o t it.6, refl),
               flag_fits world answers kinds lawful.flag false lawful.is_flag,
               (ns, (o, t, reflexive world.head lawful o, may_hold o t it.6, pt), (Of u, bt, ([], refl, flag_fits world answers kinds lawful.flag true lawful.is_flag, tt)), tt),
             ),
