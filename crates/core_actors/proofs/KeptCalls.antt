@@ -22,14 +22,14 @@ use Rattle.core_actors.specs.KeptActors.{WaitingAlike, HeldAll}
 -- ---- activations by number
 
 module _ {L : Language} where
-  at_set : (xs : List (Activation L)) (n k : ℕ) (x : Activation L) → (n ≡ k → ⊥) → activation_at (slice_set xs n x) k ≡ activation_at xs k
+  pub at_set : (xs : List (Activation L)) (n k : ℕ) (x : Activation L) → (n ≡ k → ⊥) → activation_at (slice_set xs n x) k ≡ activation_at xs k
   at_set [] n k x e = refl
   at_set (y ∷ xs) zero zero x e = absurd (e refl)
   at_set (y ∷ xs) zero (suc k) x e = refl
   at_set (y ∷ xs) (suc n) zero x e = refl
   at_set (y ∷ xs) (suc n) (suc k) x e = at_set xs n k x (λ i. e (ap suc i))
 
-  at_same : (xs : List (Activation L)) (n k : ℕ) → activation_at (slice_set xs n (activation_at xs n)) k ≡ activation_at xs k
+  pub at_same : (xs : List (Activation L)) (n k : ℕ) → activation_at (slice_set xs n (activation_at xs n)) k ≡ activation_at xs k
   at_same [] n k = refl
   at_same (y ∷ xs) zero zero = refl
   at_same (y ∷ xs) zero (suc k) = refl
@@ -37,7 +37,7 @@ module _ {L : Language} where
   at_same (y ∷ xs) (suc n) (suc k) = at_same xs n k
 
   -- one more that is dead
-  dead_waits : (xs : List (Activation L)) (k number : ℕ) → waiting_on number (activation_at (xs ++ IsDead ∷ []) k) ≡ waiting_on number (activation_at xs k)
+  pub dead_waits : (xs : List (Activation L)) (k number : ℕ) → waiting_on number (activation_at (xs ++ IsDead ∷ []) k) ≡ waiting_on number (activation_at xs k)
   dead_waits [] zero number = refl
   dead_waits [] (suc k) number = refl
   dead_waits (x ∷ xs) zero number = refl

@@ -38,7 +38,7 @@ use Rattle.core_actors.proofs.KeptNames.{entered_leaves, answering_leaves}
 -- ---- results
 
 module _ {A B : Type 0} (R Q : ℕ → ℕ → A → B → Type 0) (pays : Measure) (first charged : ℕ) (x : Execution A) where
-  out_as : (o : Result A) (r : Result B) → HasResult pays first charged x o → AlikeResults R o r
+  pub out_as : (o : Result A) (r : Result B) → HasResult pays first charged x o → AlikeResults R o r
       → ((prints : List Bytes) (weight : ℕ) (a : A) (other : ℕ) (b : B) → HasResult pays first charged x (Completed prints weight a) → R weight other a b → Q weight other a b) → AlikeResults Q o r
   out_as (Completed prints weight a) (Completed shown other b) h al f = (al.0, f prints weight a other b h (al.1))
   out_as (Completed prints weight a) (Trapped shown said) h al f = absurd al

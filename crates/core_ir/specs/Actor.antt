@@ -10,7 +10,7 @@ use Rattle.mo_values.specs.declared.error_code.ErrorCode.TheVariants as code
 use Rattle.mo_values.specs.Costs.{Cost, weighing, sizes, most_levels}
 use Rattle.mo_values.specs.Shapes.{Bytes, Error, Tuple, Made, NoShape, shapes, leaf}
 use Rattle.mo_values.specs.Views.{tuple_of, message_in}
-use Rattle.mo_actor.specs.Executions.{Progress, Execution, Completion, Completes, ReadingCost, trapping, after_reading}
+use Rattle.mo_actor.specs.Executions.{Progress, Execution, Completion, Completes, trapping, after_reading}
 use Rattle.mo_actor.specs.Executions as actor_end
 use Rattle.mo_actor.specs.Languages.{Language, language}
 use Rattle.mo_actor.specs.Programs.{OutgoingCall, Ending, Answers, Awaits, AwaitsNothing, Effects}

@@ -1,5 +1,5 @@
 -- Calls of other actors are made alike.
-use Rattle.std.proofs.Common.{◌≡◌, ℕ, ◌+◌, ◌*◌, ◌≤◌, Bool, true, false, List, [], ◌∷◌, ◌++◌, length, Some, None, refl, sym, ap, ap₂, ◌∙◌, subst, arith}
+use Rattle.std.proofs.Common.{◌≡◌, inl, ℕ, ◌+◌, ◌*◌, ◌≤◌, Bool, true, false, List, [], ◌∷◌, ◌++◌, length, Some, None, refl, sym, ap, ap₂, ◌∙◌, subst, arith}
 use Rattle.std.specs.Prelude.{max, nat_lt, cond}
 use Rattle.mo_types.specs.declared.datum.Datum.TheVariants as part
 use Rattle.mo_types.specs.declared.node.TypeId.{TypeId}
@@ -36,7 +36,7 @@ use Rattle.elaboration.specs.Meeting.{Comes, There}
 use Rattle.elaboration_values.specs.Belonging.{Known, Belongs, EachBelongs}
 use Rattle.elaboration_values.proofs.Messages.{messages}
 use Rattle.elaboration_steps.specs.Stacks.{Labels, goal_at, Passing, Written, Arrived, StateBelongs, AtAction, AtInner, AtTurned, AtLeft, AtValue, Later, LaterBy, WorldBelongs, Here, Around}
-use Rattle.elaboration_steps.specs.Follows.{rank, owed, HandlerMeets, Doing, Acts}
+use Rattle.elaboration_steps.specs.Follows.{start, rank, owed, HandlerMeets, Doing, Acts}
 use Rattle.elaboration_steps.specs.Running.{Runs}
 use Rattle.elaboration_steps.proofs.Depth.{as_deep}
 use Rattle.elaboration_steps.proofs.Paths.{stops, acts_behind}
@@ -46,7 +46,7 @@ use Rattle.elaboration_steps.proofs.Standing.{IsOutside, here_alone}
 use Rattle.elaboration_steps.proofs.Throwing.{throws}
 use Rattle.elaboration_runs.specs.Together.{Together, ActTurns}
 use Rattle.elaboration_runs.specs.Calling.{Surrounded, Calls, call_with, future, CallFollows, CallsFollow}
-use Rattle.elaboration_runs.proofs.Levels.{comes_level}
+use Rattle.elaboration_steps.proofs.StateDepth.{comes_level}
 use Rattle.elaboration_runs.proofs.Turning.{act_turns}
 
 pub no_passing : (t : Bool) (k : Stack) (f : machine.Focus) (more : Stack) → Passing t k f more → (a : Action) (vs : List Value) → f ≡ Ready a vs → ⊥
@@ -127,7 +127,7 @@ module _ (program : Core) (context : Context) (nodes : ℕ) (s : Surroundings) (
   at_call = before program context nodes held known world p name ps rs vs c.stack f k (subst (λ g. StateBelongs program context nodes world known held g c.stack f k) stands state)
 
   abbrev A : ℕ → Focus → List Frame → Act → Type 0
-  A = Acts program context nodes (rank c.focus c.stack) held known world c.store c.stack
+  A = Acts program context nodes (start c.focus c.stack) held known world c.store c.stack
 
   abbrev function : SharedFunction
   function = record { actor = p; method = name }
@@ -168,24 +168,24 @@ module _ (program : Core) (context : Context) (nodes : ℕ) (s : Surroundings) (
   rank_is = subst (λ g. 4 * left_on c.stack + length c.stack + 1 ≤ rank g c.stack) (sym stands) (omega arith)
 
   refuses_follow : (r : B) → nat_lt (open_now s c) most_calls ≡ false → ((u : core_value.Value) → Belongs known (load refused) u → HandlerMeets c.stack u)
-      → ActTurns program context nodes (rank c.focus c.stack) known w d prints world f k c (throw c.store (weighing 1) (load refused) c.stack)
+      → ActTurns program context nodes (start c.focus c.stack) known w d prints world f k c (throw c.store (weighing 1) (load refused) c.stack)
   refuses_follow r room meets =
       act_turns program context nodes held known c w d prints world f k t (throw c.store (weighing 1) (load refused) c.stack)
-      (acts_behind program context nodes (rank c.focus c.stack) held known world c.store c.stack r.weight 0 f k r.f' r.ck' (throw c.store (weighing 1) (load refused) c.stack) r.path
-      (throws program context nodes (rank c.focus c.stack) held known world c.store c.stack belongs (load refused) refusal (refl, tt) (0 + r.weight) r.f' r.ck' r.l r.less c.stack r.others r.around (meets refusal (refl, tt))
+      (acts_behind program context nodes (start c.focus c.stack) held known world c.store c.stack r.weight 0 f k r.f' r.ck' (throw c.store (weighing 1) (load refused) c.stack) r.path
+      (throws program context nodes (start c.focus c.stack) held known world c.store c.stack belongs (load refused) refusal (refl, tt) (0 + r.weight) r.f' r.ck' r.l r.less c.stack r.others r.around (meets refusal (refl, tt))
       (with_room r false room) (let z : r.weight + r.less ≤ held = r.paid in omega (arith, z)) refl rank_is r.level))
-      (deep r)
+      (inl (deep r))
 
   traps_follow : (r : B) → nat_lt (open_now s c) most_calls ≡ true → (bytes : Bytes) → message s ps vs ≡ Some bytes → nat_lt most_bytes (length bytes) ≡ true
-      → ActTurns program context nodes (rank c.focus c.stack) known w d prints world f k c (Traps (message_cost vs bytes) too_long)
+      → ActTurns program context nodes (start c.focus c.stack) known w d prints world f k c (Traps (message_cost vs bytes) too_long)
   traps_follow r room bytes e long =
       let size : sizes (shapes_list vs) ≡ sizes r.ws = (messages known (shapes_list vs) r.ws r.arguments).1 in
       let most : most_levels (shapes_list vs) ≡ most_levels r.ws = (messages known (shapes_list vs) r.ws r.arguments).2 in
       act_turns program context nodes held known c w d prints world f k t (Traps (message_cost vs bytes) too_long)
-      (acts_behind program context nodes (rank c.focus c.stack) held known world c.store c.stack r.weight 0 f k r.f' r.ck' (Traps (message_cost vs bytes) too_long) r.path
-      (stops program context nodes (0 + r.weight) (2 * (message_cost vs bytes).weight + held) (message_cost vs bytes).levels (core_calls.message_cost r.ws bytes) world r.f' r.ck' (execution.Traps too_long) (with_bytes r bytes true room e long)
+      (acts_behind program context nodes (start c.focus c.stack) held known world c.store c.stack r.weight 0 f k r.f' r.ck' (Traps (message_cost vs bytes) too_long) r.path
+      (stops program context nodes (start c.focus c.stack) (0 + r.weight) (2 * (message_cost vs bytes).weight + held) (message_cost vs bytes).levels (core_calls.message_cost r.ws bytes) world r.f' r.ck' (execution.Traps too_long) (with_bytes r bytes true room e long)
       (let z : r.weight + r.less ≤ held = r.paid in omega (arith, z, size)) (omega (arith, most))))
-      (deep r)
+      (inl (deep r))
 
   sends_follow : (r : B) → nat_lt (open_now s c) most_calls ≡ true → (bytes : Bytes) → message s ps vs ≡ Some bytes → nat_lt most_bytes (length bytes) ≡ false
       → Calls program context nodes s known c w d prints world f k (call_with program context nodes s known c w d prints world f k p name rs bytes)
@@ -225,7 +225,7 @@ module _ (program : Core) (context : Context) (nodes : ℕ) (s : Surroundings) (
               let y : live_on c.stack ≡ 16 + nodes + depth_of r.others = as_deep program.groups known context.globals nodes true r.l r.less c.stack r.others r.around in
               omega (arith, a, b, x, y, most);
           within = omega arith;
-          first = let x : 16 + nodes ≤ c.depth = t.first in omega (arith, x);
+          deep = let y : live_on c.stack ≡ 16 + nodes + depth_of r.others = as_deep program.groups known context.globals nodes true r.l r.less c.stack r.others r.around in omega (arith, y);
           stands = Here c.store (machine.Give (future program context nodes s known c w d prints world f k)) c.stack (Give (core_value.future (worlds.next_call context world))) r.others (record { cells = belongs.cells; groups = belongs.groups }) (AtValue true r.l (future program context nodes s known c w d prints world f k) (core_value.future (worlds.next_call context world)) c.stack r.others (ap (λ n. Future n) (sym numbers), tt) r.around);
         };
       }

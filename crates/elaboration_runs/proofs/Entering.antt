@@ -32,9 +32,9 @@ use Rattle.elaboration_steps.specs.Follows.{Begins}
 use Rattle.elaboration_steps.specs.Running.{least, Runs}
 use Rattle.elaboration_steps.proofs.Beginning as beginning
 use Rattle.elaboration_steps.proofs.Running.{ways}
+use Rattle.elaboration_steps.proofs.StateDepth.{deep_within}
 use Rattle.elaboration_steps.proofs.Values.{as_many}
 use Rattle.elaboration_runs.specs.Entering.{Function, function_in, SameBody, paid, Entered, EntriesFollow}
-use Rattle.elaboration_runs.proofs.Levels.{deep_within}
 use Rattle.elaboration_runs.proofs.Waiting.{leads, Ending, ending}
 
 parameters_as : (ps : Pats) (vs : List Value) → length vs ≡ number_of_parameters ps → are_as_many ps vs ≡ true
@@ -108,15 +108,17 @@ module _ (program : Core) (context : Context) (known : List Known) (store : Stor
             light = let z : u.weight' ≤ P + (d.0) = u.heavy in let y : d.0 ≤ 2 * weight_of_all f.parameters (shapes_list vs) = d.4 in omega (arith, z, y);
             shallow =
                 let z : u.depth' ≤ max 0 (max (16 + f.nodes + 0 + 16 * 0) (16 + f.nodes + depth_of (d.2))) = u.within in
-                let y : 16 + f.nodes + depth_of (d.2) ≤ live_state (machine.Eval f.body (extended (values_list us) (with_group group env))) (Returning f.nodes ∷ []) =
-                deep_within program context f.nodes world known 0 (machine.Eval f.body (extended (values_list us) (with_group group env))) (Returning f.nodes ∷ []) (d.1) (d.2) (live_state (machine.Eval f.body (extended (values_list us) (with_group group env))) (Returning f.nodes ∷ [])) (d.5) (omega arith) (omega arith) in
+                let y : 16 + f.nodes + depth_of (d.2) ≤ live_state (machine.Eval f.body (extended (values_list us) (with_group group env))) (Returning f.nodes ∷ []) = low in
                 omega (arith, z, y);
             within = omega arith;
-            first = omega arith;
+            deep = let y : 16 + f.nodes + depth_of (d.2) ≤ live_state (machine.Eval f.body (extended (values_list us) (with_group group env))) (Returning f.nodes ∷ []) = low in omega (arith, y);
             stands = Here store (machine.Eval f.body (extended (values_list us) (with_group group env))) (Returning f.nodes ∷ []) (d.1) (d.2) worlds (d.5);
           };
         },
       )
+    where
+      low : 16 + f.nodes + depth_of (d.2) ≤ live_state (machine.Eval f.body (extended (values_list us) (with_group group env))) (Returning f.nodes ∷ [])
+      low = deep_within program context f.nodes world known 0 (machine.Eval f.body (extended (values_list us) (with_group group env))) (Returning f.nodes ∷ []) (d.1) (d.2) (live_state (machine.Eval f.body (extended (values_list us) (with_group group env))) (Returning f.nodes ∷ [])) (d.5) (omega arith) (omega arith)
 
   enters_alike : (begins program context world (2 + length caller) b ws ≡ Go (weighing P) [] world (at program context f.nodes (Eval b.expression ws) [])) × E b (matches_all f.parameters (shapes_list vs))
   enters_alike =

@@ -1,8 +1,11 @@
 pub mod Levels
+pub mod Flat
 pub mod Turning
 pub mod Calling
 pub mod Waiting
 pub mod Resuming
 pub mod Entering
 pub mod Quiet
+pub mod OneStep
 pub mod Whole
+pub mod Ending

@@ -16,7 +16,7 @@ use Rattle.mo_machine.specs.Frames as machine
 use Rattle.mo_machine.specs.Frames.{Stack, Ready}
 use Rattle.elaboration.specs.Meeting.{There}
 use Rattle.elaboration_values.specs.Belonging.{Known, Belongs}
-use Rattle.elaboration_steps.specs.Stacks.{Labels, StackBelongs, WorldBelongs, Bottom, InFunction, InOperands, InMaking, InCalling, InHolding, InChoosing, InLet, InSwitch, InLabel, InTesting, InTurning, InRepeating, InRetesting, InTry, InUpdating, InGoing, InTurn, InBody, InBranch, InCase, AtAction, AtValue, Here}
+use Rattle.elaboration_steps.specs.Stacks.{Labels, StackBelongs, WorldBelongs, Bottom, InFunction, InGathering, InOperands, InMaking, InCalling, InHolding, InChoosing, InLet, InSwitch, InLabel, InTesting, InTurning, InRepeating, InRetesting, InTry, InUpdating, InGoing, InTurn, InBody, InBranch, InCase, AtAction, AtValue, Here}
 use Rattle.elaboration_steps.specs.Follows.{owed}
 use Rattle.elaboration_steps.proofs.Depth.{as_deep}
 use Rattle.elaboration_runs.specs.Resuming.{endings, throwing, GoesWith, ThrowsWith, AnswersFollow}
@@ -32,6 +32,8 @@ module _ (table : List (programs.Group core.Body)) (known : List Known) (globals
   less b l held k ck (Bottom c h js i) = record { held = 0; few = omega arith; around = Bottom c 0 js i }
   less b l held k ck (InFunction n c m h j js cj i r) =
       let u : Less c m j cj = less c m h j cj r in let fits : u.held ≤ endings j = u.few in record { held = u.held; few = omega (arith, fits); around = InFunction n c m u.held j js cj i u.around }
+  less b l held k ck (InGathering n c m h f g done before next left j js cj i e d r) =
+      let u : Less c m j cj = less c m h j cj r in let fits : u.held ≤ endings j = u.few in record { held = u.held; few = omega (arith, fits); around = InGathering n c m u.held f g done before next left j js cj i e d u.around }
   less b l held k ck (InOperands x m h a done rest env j before later vals cj g e d r) =
       let u : Less x m j cj = less x m h j cj r in let fits : u.held ≤ endings j = u.few in record { held = u.held; few = omega (arith, fits); around = InOperands x m u.held a done rest env j before later vals cj g e d u.around }
   less b l held k ck (InMaking x m h i a done rest args env j before later arguments vals cj row e d f r) =
@@ -87,7 +89,7 @@ module _ (program : Core) (context : Context) (nodes : ℕ) (s : Surroundings) (
       light = let z : r.held ≤ endings k = r.few in omega (arith, z, few);
       shallow = omega arith;
       within = omega arith;
-      first = omega (arith, deep);
+      deep = omega (arith, deep);
       stands = Here store (machine.Give (load v)) k (Give w) frames worlds (AtValue true l (load v) w k frames value r.around);
     };
   }
@@ -102,7 +104,7 @@ module _ (program : Core) (context : Context) (nodes : ℕ) (s : Surroundings) (
       light = let z : r.held ≤ endings k = r.few in omega (arith, z, few);
       shallow = omega arith;
       within = omega arith;
-      first = omega (arith, deep);
+      deep = omega (arith, deep);
       stands = Here store (Ready action.Throw (load e ∷ [])) k (Give w) (throwing program context nodes s known store world call k frames w) worlds (AtAction action.Throw (load e ∷ []) k (Give w) (throwing program context nodes s known store world call k frames w) (record {
         b = true;
         l = l;

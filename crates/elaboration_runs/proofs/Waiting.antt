@@ -1,5 +1,5 @@
 -- An `await` waits alike.
-use Rattle.std.proofs.Common.{◌≡◌, ℕ, suc, ◌+◌, ◌*◌, ◌≤◌, Bool, true, false, List, [], ◌∷◌, ◌++◌, length, Option, Some, None, refl, sym, ap, ap₂, ◌∙◌, subst, arith}
+use Rattle.std.proofs.Common.{◌≡◌, inl, ℕ, suc, ◌+◌, ◌*◌, ◌≤◌, Bool, true, false, List, [], ◌∷◌, ◌++◌, length, Option, Some, None, refl, sym, ap, ap₂, ◌∙◌, subst, arith}
 use Rattle.std.specs.Prelude.{max, nat_lt, cond}
 use Rattle.mo_types.specs.Calls.{State, Open, Answered, Lost, call_at, state_of, next_number}
 use Rattle.mo_values.specs.Costs.{Cost, weighing}
@@ -34,8 +34,8 @@ use Rattle.mo_machine.specs.Turns.{message, resume_call}
 use Rattle.elaboration.specs.Meeting as meeting
 use Rattle.elaboration.specs.Meeting.{Joins, Comes, There}
 use Rattle.elaboration_values.specs.Belonging.{Known, Belongs, EachBelongs}
-use Rattle.elaboration_steps.specs.Stacks.{Passed, Labels, StackBelongs, Bottom, InFunction, InOperands, InMaking, InCalling, InHolding, InChoosing, InLet, InSwitch, InLabel, InTesting, InTurning, InRepeating, InRetesting, InTry, InUpdating, InGoing, InTurn, InBody, InBranch, InCase, StateBelongs, AtAction, AtInner, AtTurned, AtLeft, Later, LaterBy, WorldBelongs, Around}
-use Rattle.elaboration_steps.specs.Follows.{rank, owed, HandlerMeets, Leads, Plainly}
+use Rattle.elaboration_steps.specs.Stacks.{Passed, Labels, StackBelongs, Bottom, InFunction, InGathering, InOperands, InMaking, InCalling, InHolding, InChoosing, InLet, InSwitch, InLabel, InTesting, InTurning, InRepeating, InRetesting, InTry, InUpdating, InGoing, InTurn, InBody, InBranch, InCase, StateBelongs, AtAction, AtInner, AtTurned, AtLeft, Later, LaterBy, WorldBelongs, Around}
+use Rattle.elaboration_steps.specs.Follows.{start, rank, owed, HandlerMeets, Leads, Plainly}
 use Rattle.elaboration_steps.specs.Follows as follows
 use Rattle.elaboration_steps.specs.Running.{least, Runs}
 use Rattle.elaboration_steps.proofs.Depth.{as_deep}
@@ -48,7 +48,7 @@ use Rattle.elaboration_runs.specs.Together.{Together, ActTurns}
 use Rattle.elaboration_runs.specs.Calling.{SameCall, Surrounded}
 use Rattle.elaboration_runs.specs.Waiting.{SameState, Accounted, Suspended, waiting, resuming, AwaitFollows, AwaitsFollow}
 use Rattle.elaboration_runs.proofs.Calling.{no_passing}
-use Rattle.elaboration_runs.proofs.Levels.{comes_level}
+use Rattle.elaboration_steps.proofs.StateDepth.{comes_level}
 use Rattle.elaboration_runs.proofs.Turning.{act_turns}
 
 -- ---- only the body that was entered waits
@@ -75,6 +75,7 @@ module _ (table : List (programs.Group core.Body)) (known : List Known) (globals
   lone : (b : Bool) (l : Labels) (held : ℕ) (k : Stack) (ck : List Frame) → StackBelongs table known globals nodes b l held k ck → b ≡ true → is_lone ck ≡ true
   lone b l held k ck (Bottom c h js i) e = joins_lone js [] i
   lone b l held k ck (InFunction n c m h j js cj i r) e = absurd (let z : false ≡ true = e in cc)
+  lone b l held k ck (InGathering n c m h f g done before next left j js cj i v d r) e = absurd (let z : false ≡ true = e in cc)
   lone b l held k ck (InOperands x m h a done rest env j before later vals cj g e d r) same = lone x m h j cj r same
   lone b l held k ck (InMaking x m h i a done rest args env j before later arguments vals cj row e d f r) same = lone x m h j cj r same
   lone b l held k ck (InCalling x m h i a holds done rest env j before later vals cj row e d r) same = lone x m h j cj r same
@@ -99,6 +100,7 @@ module _ (table : List (programs.Group core.Body)) (known : List Known) (globals
   nodes_alone : (b : Bool) (l : Labels) (held : ℕ) (k : Stack) (ck : List Frame) → StackBelongs table known globals nodes b l held k ck → b ≡ true → (n : ℕ) → nodes_around n k ≡ nodes + n
   nodes_alone b l held k ck (Bottom c h js i) e n = refl
   nodes_alone b l held k ck (InFunction i c m h j js cj q r) e n = absurd (let z : false ≡ true = e in cc)
+  nodes_alone b l held k ck (InGathering i c m h f g done before next left j js cj q v d r) e n = absurd (let z : false ≡ true = e in cc)
   nodes_alone b l held k ck (InOperands x m h a done rest env j before later vals cj g e d r) same n = nodes_alone x m h j cj r same n
   nodes_alone b l held k ck (InMaking x m h i a done rest args env j before later arguments vals cj row e d f r) same n = nodes_alone x m h j cj r same n
   nodes_alone b l held k ck (InCalling x m h i a holds done rest env j before later vals cj row e d r) same n = nodes_alone x m h j cj r same n
@@ -303,6 +305,7 @@ module _ (program : Core) (context : Context) (nodes : ℕ) (s : Surroundings) (
             let z : depth_of r.ck' ≡ depth_of r.others = r.level in
             omega (arith, a, b, x, y, z, depth);
         around = subst (λ j. Around program context nodes world known true r.l r.less j r.others) (sym stack) r.around;
+        bodies = ap (nodes_around 0) stack ∙ (nodes_are r ∙ (let z : nodes + 0 ≡ nodes = omega arith in z));
       }
 
   waits_follow : (r : B) → state_now s c call ≡ Some Open → Suspended program context nodes s known c w d prints world f k (Some call) world.requests (waiting program context nodes s known c w d prints world f k)
@@ -331,13 +334,13 @@ module _ (program : Core) (context : Context) (nodes : ℕ) (s : Surroundings) (
   rank_is = subst (λ g. 4 * left_on c.stack + length c.stack + 1 ≤ rank g c.stack) (sym stands) (omega arith)
 
   refuses_follow : (r : B) (g : Option Given) → state_now s c call ≡ Some (Answered g) → nat_lt (open_now s c) most_calls ≡ false → ((u : core_value.Value) → Belongs known (load refused) u → HandlerMeets c.stack u)
-      → ActTurns program context nodes (rank c.focus c.stack) known w d prints world f k c (throw c.store (weighing 1) (load refused) c.stack)
+      → ActTurns program context nodes (start c.focus c.stack) known w d prints world f k c (throw c.store (weighing 1) (load refused) c.stack)
   refuses_follow r g e room meets =
       act_turns program context nodes held known c w d prints world f k t (throw c.store (weighing 1) (load refused) c.stack)
-      (acts_behind program context nodes (rank c.focus c.stack) held known world c.store c.stack r.weight 0 f k r.f' r.ck' (throw c.store (weighing 1) (load refused) c.stack) r.path
-      (throws program context nodes (rank c.focus c.stack) held known world c.store c.stack belongs (load refused) refusal (refl, tt) (0 + r.weight) r.f' r.ck' r.l r.less c.stack r.others r.around (meets refusal (refl, tt))
+      (acts_behind program context nodes (start c.focus c.stack) held known world c.store c.stack r.weight 0 f k r.f' r.ck' (throw c.store (weighing 1) (load refused) c.stack) r.path
+      (throws program context nodes (start c.focus c.stack) held known world c.store c.stack belongs (load refused) refusal (refl, tt) (0 + r.weight) r.f' r.ck' r.l r.less c.stack r.others r.around (meets refusal (refl, tt))
       (answered r g false e room) (let z : r.weight + r.less ≤ held = r.paid in omega (arith, z)) refl rank_is r.level))
-      (deep r)
+      (inl (deep r))
 
   abbrev again : Bytes → Request
   again bytes = resume_request context world nodes call bytes

@@ -23,7 +23,7 @@ use Rattle.mo_machine.specs.Jumps.{throw}
 use Rattle.mo_machine.specs.Messages.{message_cost}
 use Rattle.mo_machine.specs.Turns.{call_cost, message}
 use Rattle.elaboration_values.specs.Belonging.{Known, Belongs, EachBelongs}
-use Rattle.elaboration_steps.specs.Follows.{rank, HandlerMeets}
+use Rattle.elaboration_steps.specs.Follows.{start, HandlerMeets}
 use Rattle.elaboration_runs.specs.Together.{Together, IsOver, ActTurns}
 
 -- the same call
@@ -70,9 +70,9 @@ module _ (program : Core) (context : Context) (nodes : ℕ) (s : Surroundings) w
     pub record CallFollows (p name : Bytes) (ps rs : List TypeId) (vs : List Value) : Type 0 where
       -- it is not let through
       pub refuses : nat_lt (open_now s c) most_calls ≡ false → ((u : core_value.Value) → Belongs known (load refused) u → HandlerMeets c.stack u)
-          → ActTurns program context nodes (rank c.focus c.stack) known w d prints world f k c (throw c.store (weighing 1) (load refused) c.stack)
+          → ActTurns program context nodes (start c.focus c.stack) known w d prints world f k c (throw c.store (weighing 1) (load refused) c.stack)
       pub traps : nat_lt (open_now s c) most_calls ≡ true → (bytes : Bytes) → message s ps vs ≡ Some bytes → nat_lt most_bytes (length bytes) ≡ true
-          → IsOver program context nodes (rank c.focus c.stack) known w d prints world f k (weighed (message_cost vs bytes) c) (execution.Traps too_long)
+          → IsOver program context nodes (start c.focus c.stack) known w d prints world f k (weighed (message_cost vs bytes) c) (execution.Traps too_long)
       pub calls : nat_lt (open_now s c) most_calls ≡ true → (bytes : Bytes) → message s ps vs ≡ Some bytes → nat_lt most_bytes (length bytes) ≡ false
           → Calls (call_with p name rs bytes) (moved (weighing 1) c.store (machine.Give future) c.stack (with_call (call_with p name rs bytes) (weighed (call_cost p name vs bytes) c)))
 

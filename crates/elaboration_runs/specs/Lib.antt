@@ -4,3 +4,4 @@ pub mod Waiting
 pub mod Resuming
 pub mod Entering
 pub mod Whole
+pub mod Ending

@@ -20,7 +20,7 @@ use Rattle.mo_machine.specs.Jumps.{throw, nodes_around}
 use Rattle.mo_machine.specs.Turns.{call_cost, message, resume_call}
 use Rattle.elaboration_values.specs.Belonging.{Known, Belongs}
 use Rattle.elaboration_steps.specs.Stacks.{Labels, StackBelongs}
-use Rattle.elaboration_steps.specs.Follows.{rank, owed, HandlerMeets}
+use Rattle.elaboration_steps.specs.Follows.{start, owed, HandlerMeets}
 use Rattle.elaboration_runs.specs.Together.{Together, ActTurns}
 use Rattle.elaboration_runs.specs.Calling.{SameCall, Surrounded}
 
@@ -54,6 +54,7 @@ module _ (program : Core) (context : Context) (nodes : ℕ) (s : Surroundings) w
       pub light : weight' + less ≤ 2 * c'.weight + owed c'.stack
       pub shallow : depth' ≤ c'.depth
       pub around : StackBelongs program.groups known context.globals nodes true l less c'.stack stack
+      pub bodies : nodes_around 0 c'.stack ≡ nodes
 
     abbrev pub waiting : Configuration
     waiting = weighed (weighing (1 + nodes_around 0 c.stack)) c
@@ -67,7 +68,7 @@ module _ (program : Core) (context : Context) (nodes : ℕ) (s : Surroundings) w
       pub sleeps : state_now s c call ≡ Some Lost → Suspended None world.requests waiting
       -- it is answered: the actor calls itself, where that is let through
       pub refuses : (g : Option Given) → state_now s c call ≡ Some (Answered g) → nat_lt (open_now s c) most_calls ≡ false → ((u : core_value.Value) → Belongs known (load refused) u → HandlerMeets c.stack u)
-          → ActTurns program context nodes (rank c.focus c.stack) known w d prints world f k c (throw c.store (weighing 1) (load refused) c.stack)
+          → ActTurns program context nodes (start c.focus c.stack) known w d prints world f k c (throw c.store (weighing 1) (load refused) c.stack)
       pub resumes : (g : Option Given) → state_now s c call ≡ Some (Answered g) → nat_lt (open_now s c) most_calls ≡ true → (bytes : Bytes) → message s [] [] ≡ Some bytes
           → (request : Request) × SameCall (resume_call s call bytes) request × Suspended (Some (next_call s c)) (world.requests ++ request ∷ []) (resuming call bytes)
 

@@ -4,6 +4,7 @@ ghost use Rattle.core_ir.specs.Expressions.{Core};
 ghost use Rattle.core_ir.specs.Worlds.{Context};
 ghost use Rattle.mo_meaning.specs.Configurations.{Surroundings};
 ghost use Rattle.elaboration_runs.specs.Calling.{CallsFollow};
+ghost use Rattle.elaboration_runs.specs.Ending.{ExecutionsCover};
 ghost use Rattle.elaboration_runs.specs.Entering.{EntriesFollow};
 ghost use Rattle.elaboration_runs.specs.Resuming.{AnswersFollow};
 ghost use Rattle.elaboration_runs.specs.Together.{TurnsFollow};
@@ -49,4 +50,11 @@ pub fn executions_are_followed()
 /// In an execution that still goes on after enough steps, Core's run has made as many as are wanted: where a run is over, so is its execution.
 pub fn executions_go_on()
     ensures { (program : Core) (context : Context) (nodes : ℕ) → ExecutionsGoOn program context nodes }
+{}
+
+/// After any number of steps of Core's run there is one of steps of the execution: the run has shown no more than that, at no more than twice its weight
+/// and what is owed, and is no deeper; or it is over as that is, with a value or an error that belongs, the same text, or waiting on the same call. The
+/// execution is one that does not break, where values stand where values of their types do, and where the parameters of each call match.
+pub fn executions_are_covered()
+    ensures { (program : Core) (context : Context) (nodes : ℕ) → ExecutionsCover program context nodes }
 {}

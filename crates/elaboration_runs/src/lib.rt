@@ -6,5 +6,5 @@ mod laws;
 
 pub use laws::{
     answers_are_followed, awaits_are_followed, calls_are_followed, entries_are_followed,
-    executions_are_followed, executions_go_on, turns_are_followed,
+    executions_are_covered, executions_are_followed, executions_go_on, turns_are_followed,
 };

@@ -37,7 +37,7 @@ use Rattle.mo_machine.specs.Reductions.{reduces}
 use Rattle.elaboration_values.specs.Belonging.{Known, Names, Belongs}
 use Rattle.elaboration_values.proofs.Belong.{operations}
 use Rattle.elaboration_steps.specs.Stacks.{Labels, option_of, behind_place, WorldBelongs, Around, Later, LaterBy, AtWriting, AtWritten, AtBack}
-use Rattle.elaboration_steps.specs.Follows.{rank, owed, Acts}
+use Rattle.elaboration_steps.specs.Follows.{start, owed, Acts}
 use Rattle.elaboration_steps.proofs.Depth.{as_deep}
 use Rattle.elaboration_steps.proofs.Paths.{nothing_more, waits, does, stops}
 use Rattle.elaboration_steps.proofs.Values.{value_belongs, same_cell, set_both}
@@ -69,19 +69,19 @@ module _ (program : Core) (context : Context) (nodes : ℕ) (held : ℕ) (known 
       numbers = core_value.number i ∷ core_value.number 1 ∷ []
 
       abbrev A : Act → Type 0
-      A = Acts program context nodes (rank (Ready (action.Operate (op.Arithmetic operator.Add kind.Nat)) summands) second) held known world store second 0 cf ck
+      A = Acts program context nodes (start (Ready (action.Operate (op.Arithmetic operator.Add kind.Nat)) summands) second) held known world store second 0 cf ck
 
       raised : (a : Answer Code) (n : Answer Handle) → AlikeAnswers (Names known) a n → focused program context nodes world cf ck ≡ operated program context nodes world inside (advanced context.head world.store w cell character n) → less + w ≤ suc held
           → A (on_stack store (actions.answered store (weighing 1) a) second)
       raised (view.Gives v) (view.Gives u) r eq fits =
-          waits program context nodes (rank (Ready (action.Operate (op.Arithmetic operator.Add kind.Nat)) summands) second) (0 + owed second) (2 * 1 + held) 0 (held + 2) known world cf ck store (machine.Give (value_of v)) second (omega arith) (omega arith) worlds
+          waits program context nodes (start (Ready (action.Operate (op.Arithmetic operator.Add kind.Nat)) summands) second) (0 + owed second) (2 * 1 + held) 0 (held + 2) known world cf ck store (machine.Give (value_of v)) second (omega arith) (omega arith) worlds
           (Later (machine.Give (value_of v)) second (Ready action.Write (place ∷ value_of v ∷ [])) (behind_place c place k) cf ck refl (λ store. refl) (omega arith) (omega arith) (omega (arith, deep, depth))
           (AtWriting b l less w c place (value_of v) cell u k others cf ck value (value_belongs known v u r) eq depth (omega (arith, fits)) around))
       raised (view.Gives v) (view.Traps t) r eq fits = absurd r
       raised (view.Gives v) view.Stuck r eq fits = absurd r
       raised (view.Traps t) (view.Gives u) r eq fits = absurd r
       raised (view.Traps t) (view.Traps u) r eq fits =
-          stops program context nodes 0 (2 * 1 + held) 0 (weighing w) world cf ck (execution.Traps t) (eq ∙ ap (λ x. Ends (weighing w) [] world (execution.Traps x)) (sym r)) (omega (arith, fits)) (omega arith)
+          stops program context nodes (start (Ready (action.Operate (op.Arithmetic operator.Add kind.Nat)) summands) second) 0 (2 * 1 + held) 0 (weighing w) world cf ck (execution.Traps t) (eq ∙ ap (λ x. Ends (weighing w) [] world (execution.Traps x)) (sym r)) (omega (arith, fits)) (omega arith)
       raised (view.Traps t) view.Stuck r eq fits = absurd r
       raised view.Stuck n r eq fits = tt
 
@@ -94,13 +94,13 @@ module _ (program : Core) (context : Context) (nodes : ℕ) (held : ℕ) (known 
     -- and written
     module _ (v : Value) (u : core_value.Value) (new : Belongs known v u) where
       abbrev W : Act → Type 0
-      W = Acts program context nodes (rank (Ready action.Write (place ∷ v ∷ [])) (behind_place c place k)) held known world store (behind_place c place k) 0 cf ck
+      W = Acts program context nodes (start (Ready action.Write (place ∷ v ∷ [])) (behind_place c place k)) held known world store (behind_place c place k) 0 cf ck
 
       written_at : (o : Option ℕ) → focused program context nodes world cf ck ≡ operated program context nodes world inside (on_some primitives.Stuck o (λ at. primitives.Gives (weighing (3 + w)) (core_value.present character) (slice_set world.store at u))) → less + w + 1 ≤ held
           → W (on_stack store (written store o v) (behind_place c place k))
       written_at None eq fits = tt
       written_at (Some at) eq fits =
-          does program context nodes (rank (Ready action.Write (place ∷ v ∷ [])) (behind_place c place k)) (0 + owed (behind_place c place k)) (2 * 1 + held) 0 less (weighing (3 + w)) [] known known world (with_store world (slice_set world.store at u)) cf ck
+          does program context nodes (start (Ready action.Write (place ∷ v ∷ [])) (behind_place c place k)) (0 + owed (behind_place c place k)) (2 * 1 + held) 0 less (weighing (3 + w)) [] known known world (with_store world (slice_set world.store at u)) cf ck
           (Give (core_value.present character)) inside (slice_set store at v) (machine.Give machine_value.unit) (behind_place c place k) eq (omega (arith, fits)) (omega arith) ([], nothing_more known) refl
           (record { cells = set_both known store world.store at v u worlds.cells new; groups = worlds.groups }) (AtWritten b l c place k others around)
 
@@ -112,9 +112,9 @@ module _ (program : Core) (context : Context) (nodes : ℕ) (held : ℕ) (known 
 
   -- and the character is given
   pub gives_character : (b : Bool) (l : Labels) (c : ℕ) (place : Value) (k : Stack) (others : List Frame) → Around program context nodes world known b l held k others
-      → Acts program context nodes (rank (machine.Give machine_value.unit) (behind_place c place k)) held known world store (behind_place c place k) 0 (Give (core_value.present (shape.leaf (part.Char c)))) (Caller 0 None ∷ others) (reduces context.head None store (machine.Give machine_value.unit) (behind_place c place k))
+      → Acts program context nodes (start (machine.Give machine_value.unit) (behind_place c place k)) held known world store (behind_place c place k) 0 (Give (core_value.present (shape.leaf (part.Char c)))) (Caller 0 None ∷ others) (reduces context.head None store (machine.Give machine_value.unit) (behind_place c place k))
   gives_character b l c place k others around =
-      does program context nodes (rank (machine.Give machine_value.unit) (behind_place c place k)) (0 + owed (behind_place c place k)) (2 * (1 + 1) + held) 0 held (weighing 1) [] known known world world (Give given) (Caller 0 None ∷ others) (Give given) others store
+      does program context nodes (start (machine.Give machine_value.unit) (behind_place c place k)) (0 + owed (behind_place c place k)) (2 * (1 + 1) + held) 0 held (weighing 1) [] known known world world (Give given) (Caller 0 None ∷ others) (Give given) others store
       (machine.Eval (option_of c) env) (Joining ∷ Returning 0 ∷ k) refl (omega arith) (omega arith) ([], nothing_more known) refl worlds
       (Later (machine.Eval (option_of c) env) (Joining ∷ Returning 0 ∷ k) (machine.Eval (source.Val (source.leaf (part.Char c))) env) options (Give given) others refl (λ store. refl) (omega arith) (omega arith) (omega (arith, deep))
       (Later (machine.Eval (source.Val (source.leaf (part.Char c))) env) options (machine.Give (leaf (part.Char c))) options (Give given) others refl (λ store. refl) (omega arith) (omega arith) (omega (arith, deep))

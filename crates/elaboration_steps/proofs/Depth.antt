@@ -1,5 +1,5 @@
 -- Stacks that belong together are as deep.
-use Rattle.std.proofs.Common.{◌≡◌, ℕ, ◌+◌, Bool, true, List, [], ◌∷◌, ◌++◌, None, refl, arith}
+use Rattle.std.proofs.Common.{◌≡◌, ℕ, zero, suc, ◌+◌, Bool, true, List, [], ◌∷◌, ◌++◌, Some, None, refl, arith}
 use Rattle.core_ir.specs.Programs as programs
 use Rattle.core_ir.specs.Values.{Value}
 use Rattle.core_ir.specs.Expressions as core
@@ -11,11 +11,16 @@ use Rattle.typed_tree.specs.Language.{Exp, Exps, Val, Name, Do, If, Switch, Grou
 use Rattle.mo_meaning.specs.Depth.{live, live_all}
 use Rattle.mo_machine.specs.Configurations.{live_on}
 use Rattle.mo_machine.specs.Frames.{Stack}
+use Rattle.mo_machine.specs.Members.{calls_code}
 use Rattle.elaboration.specs.Scopes.{Scope, beside}
 use Rattle.elaboration_forms.specs.Elaborates.{Elaborates, ElaboratesAll, ElaboratesNames}
 use Rattle.elaboration_values.specs.Belonging.{Known}
-use Rattle.elaboration_steps.specs.Stacks.{Labels, scope, turn_with, StackBelongs, Bottom, InFunction, InOperands, InMaking, InCalling, InHolding, InChoosing, InLet, InSwitch, InLabel, InTesting, InTurning, InRepeating, InRetesting, InTry, InUpdating, InGoing, InTurn, InBody, InBranch, InCase}
+use Rattle.elaboration_steps.specs.Stacks.{Labels, scope, turn_with, gathering_of, StackBelongs, Bottom, InFunction, InGathering, InOperands, InMaking, InCalling, InHolding, InChoosing, InLet, InSwitch, InLabel, InTesting, InTurning, InRepeating, InRetesting, InTry, InUpdating, InGoing, InTurn, InBody, InBranch, InCase}
 use Rattle.elaboration_steps.proofs.Levels.{joins_level, skips_level}
+
+calls_live : (next left : ℕ) → live_all (calls_code next left) ≡ 0
+calls_live next zero = refl
+calls_live next (suc left) = let z : live_all (calls_code (suc next) left) ≡ 0 = calls_live (suc next) left in omega (arith, z)
 
 -- no body stands written in code
 module _ (table : List (programs.Group Body)) where
@@ -58,6 +63,11 @@ module _ (table : List (programs.Group Body)) where
         let x : depth_of (js ++ (Caller n None ∷ cj)) ≡ 16 + n + depth_of cj = joins_level js (Caller n None ∷ cj) i in
         let y : live_on j ≡ 16 + nodes + depth_of cj = as_deep c m h j cj r in
         omega (arith, x, y)
+    as_deep b l held k ck (InGathering n c m h f g done before next left j js cj i value values r) =
+        let x : depth_of (js ++ (Caller n (Some (gathering_of g before next left)) ∷ Caller 0 None ∷ cj)) ≡ 16 + n + (16 + 0 + depth_of cj) = joins_level js (Caller n (Some (gathering_of g before next left)) ∷ Caller 0 None ∷ cj) i in
+        let z : live_all (calls_code next left) ≡ 0 = calls_live next left in
+        let y : live_on j ≡ 16 + nodes + depth_of cj = as_deep c m h j cj r in
+        omega (arith, x, y, z)
     as_deep b l held k ck (InOperands x m h a done rest env j before later vals cj g e d r) =
         let u : live_all rest ≡ 0 = no_live_all x (scope d.places m vals) rest later d.code in let y : live_on j ≡ 16 + nodes + depth_of cj = as_deep x m h j cj r in omega (arith, u, y)
     as_deep b l held k ck (InMaking x m h i a done rest args env j before later arguments vals cj row e d f r) =

@@ -92,7 +92,7 @@ held_all store (c ∷ cs) (w ∷ ws) h =
 
 -- ---- the way to an element
 
-most : (a : Action) (vs : List Value) → further (Ready a vs) ≤ 3
+pub most : (a : Action) (vs : List Value) → further (Ready a vs) ≤ 3
 most action.Call (BuiltIn m holds ∷ vs) = omega arith
 most a vs = omega arith
 

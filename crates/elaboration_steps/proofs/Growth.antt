@@ -15,7 +15,7 @@ use Rattle.mo_machine.specs.Frames.{Stack}
 use Rattle.elaboration.specs.Scopes.{Place, Local, Own, Nowhere, place_or_nowhere}
 use Rattle.elaboration_values.specs.Belonging.{Known, Belongs, EachBelongs, StandsAt, EnvironmentBelongs}
 use Rattle.elaboration_values.proofs.Belong.{stay}
-use Rattle.elaboration_steps.specs.Stacks.{Labels, Coded, CodedAll, CodedBeside, CodedPattern, CodedTurn, CodedCases, HeldAt, FunctionsBelong, MemberBelongs, StackBelongs, Bottom, InFunction, InOperands, InMaking, InCalling, InHolding, InChoosing, InLet, InSwitch, InLabel, InTesting, InTurning, InRepeating, InRetesting, InTry, InUpdating, InGoing, InTurn, InBody, InBranch, InCase}
+use Rattle.elaboration_steps.specs.Stacks.{Labels, Coded, CodedAll, CodedBeside, CodedPattern, CodedTurn, CodedCases, HeldAt, FunctionsBelong, MemberBelongs, StackBelongs, Bottom, InFunction, InGathering, InOperands, InMaking, InCalling, InHolding, InChoosing, InLet, InSwitch, InLabel, InTesting, InTurning, InRepeating, InRetesting, InTry, InUpdating, InGoing, InTurn, InBody, InBranch, InCase}
 
 module _ (table : List (Group Body)) (known more : List Known) (globals : List core_value.Value) where
   abbrev grown : List Known
@@ -72,6 +72,7 @@ module _ (table : List (Group Body)) (known more : List Known) (globals : List c
     pub stack_stays : (b : Bool) (l : Labels) (held : ℕ) (k : Stack) (ck : List core_machine.Frame) → StackBelongs table known globals nodes b l held k ck → StackBelongs table grown globals nodes b l held k ck
     stack_stays b l held k ck (Bottom c h js q) = Bottom c h js q
     stack_stays b l held k ck (InFunction n c m h j js cj q r) = InFunction n c m h j js cj q (stack_stays c m h j cj r)
+    stack_stays b l held k ck (InGathering n c m h f g done before next left j js cj q i e r) = InGathering n c m h f g done before next left j js cj q (value_stays f g i) (each_stays done before e) (stack_stays c m h j cj r)
     stack_stays b l held k ck (InOperands c m h a done rest env j before later vals cj g e d r) =
         InOperands c m h a done rest env j before later vals cj g (each_stays done before e) (all_stays c m rest env later vals d) (stack_stays c m h j cj r)
     stack_stays b l held k ck (InMaking x m h i a done rest args env j before later arguments vals cj row e d f r) =

@@ -6,7 +6,7 @@ use Rattle.core_ir.specs.Expressions.{Body}
 use Rattle.core_ir.specs.CoreMachine as core_machine
 use Rattle.mo_machine.specs.Frames.{Stack}
 use Rattle.elaboration_values.specs.Belonging.{Known}
-use Rattle.elaboration_steps.specs.Stacks.{Labels, no_labels, with_label, with_own_label, StackBelongs, Bottom, InFunction, InOperands, InMaking, InCalling, InHolding, InChoosing, InLet, InSwitch, InLabel, InTesting, InTurning, InRepeating, InRetesting, InTry, InUpdating, InGoing, InTurn, InBody, InBranch, InCase}
+use Rattle.elaboration_steps.specs.Stacks.{Labels, no_labels, with_label, with_own_label, StackBelongs, Bottom, InFunction, InGathering, InOperands, InMaking, InCalling, InHolding, InChoosing, InLet, InSwitch, InLabel, InTesting, InTurning, InRepeating, InRetesting, InTry, InUpdating, InGoing, InTurn, InBody, InBranch, InCase}
 
 abbrev pub Within : Labels → Type 0
 Within l = (i : ℕ) (a : ℕ) → slice_get l.exits i ≡ Some a → a < l.count
@@ -29,6 +29,7 @@ module _ (table : List (Group Body)) (known : List Known) (globals : List Value)
   pub within : (b : Bool) (l : Labels) (held : ℕ) (k : Stack) (ck : List core_machine.Frame) → StackBelongs table known globals nodes b l held k ck → Within l
   within b l held k ck (Bottom c h js q) = none_within
   within b l held k ck (InFunction n c m h j js cj q r) = none_within
+  within b l held k ck (InGathering n c m h f g done before next left j js cj q i e r) = none_within
   within b l held k ck (InOperands c m h a done rest env j before later vals cj g e d r) = within c m h j cj r
   within b l held k ck (InMaking x m h i a done rest args env j before later arguments vals cj row e d f r) = within x m h j cj r
   within b l held k ck (InCalling x m h i a holds done rest env j before later vals cj row e d r) = within x m h j cj r

@@ -19,11 +19,12 @@ use Rattle.mo_machine.specs.Jumps.{leave}
 use Rattle.elaboration.specs.Scopes as scopes
 use Rattle.elaboration.specs.Meeting.{Joins, There}
 use Rattle.elaboration_values.specs.Belonging.{Known, Belongs}
-use Rattle.elaboration_steps.specs.Stacks.{Passed, Labels, goal_at, turn_with, WorldBelongs, AtAction, AtValue, AtEnd, Around, Bottom, InFunction, InOperands, InMaking, InCalling, InHolding, InChoosing, InLet, InSwitch, InLabel, InTesting, InTurning, InRepeating, InRetesting, InTry, InUpdating, InGoing, InTurn, InBody, InBranch, InCase}
-use Rattle.elaboration_steps.specs.Follows.{owed, Acts}
+use Rattle.elaboration_steps.specs.Stacks.{Passed, Labels, goal_at, turn_with, WorldBelongs, AtAction, AtValue, AtEnd, Around, Bottom, InFunction, InGathering, InOperands, InMaking, InCalling, InHolding, InChoosing, InLet, InSwitch, InLabel, InTesting, InTurning, InRepeating, InRetesting, InTry, InUpdating, InGoing, InTurn, InBody, InBranch, InCase, gathering_on, gathering_of, Gathered}
+use Rattle.elaboration_steps.specs.Follows.{Start, owed, Acts}
 use Rattle.elaboration_steps.proofs.Labels.{within}
 use Rattle.elaboration_steps.proofs.Levels.{joins_level, skips_level}
-use Rattle.elaboration_steps.proofs.Paths.{nothing_more, waits, does}
+use Rattle.elaboration_steps.proofs.Gathering.{gathers_behind}
+use Rattle.elaboration_steps.proofs.Paths.{nothing_more, waits_in, waits, does}
 
 module _ (program : Core) (context : Context) (nodes : ℕ) (world : World) (w : core_value.Value) where
   -- out of the label around which so many of these stand, or out of the function
@@ -111,7 +112,7 @@ passes store v k (machine.Trying p b env) h n = absurd h
 passes store v k f h zero = refl
 passes store v k f h (suc n) = refl
 
-module _ (program : Core) (context : Context) (nodes : ℕ) (before held : ℕ) (known : List Known) (world : World) (store : Store) (k0 : Stack) (worlds : WorldBelongs program.groups known context.globals store world) (v : Value) (w : core_value.Value) (value : Belongs known v w) (spent : ℕ) (cf : Focus) (ck0 : List Frame) where
+module _ (program : Core) (context : Context) (nodes : ℕ) (before : Start) (held : ℕ) (known : List Known) (world : World) (store : Store) (k0 : Stack) (worlds : WorldBelongs program.groups known context.globals store world) (v : Value) (w : core_value.Value) (value : Belongs known v w) (spent : ℕ) (cf : Focus) (ck0 : List Frame) where
   abbrev A : Act → Type 0
   A = Acts program context nodes before held known world store k0 spent cf ck0
 
@@ -120,7 +121,7 @@ module _ (program : Core) (context : Context) (nodes : ℕ) (before held : ℕ) 
 
   -- how far out it has come
   abbrev Low : Stack → Type 0
-  Low k = 4 * left_on k + length k + 1 ≤ before
+  Low k = 4 * left_on k + length k + 1 ≤ before.most
 
   here : (b : Bool) (l : Labels) (less : ℕ) (k : Stack) (ck : List Frame) → Around program context nodes world known b l less k ck → focused program context nodes world cf ck0 ≡ Go (weighing 1) [] world (at program context nodes (core_machine.Give w) ck)
       → spent + less + owed k0 ≤ 1 + held + owed k → A (goes store (machine.Give v) k)
@@ -129,7 +130,7 @@ module _ (program : Core) (context : Context) (nodes : ℕ) (before held : ℕ) 
       (AtValue b l v w k ck value r)
 
   -- a construct was passed: Core waits
-  passed : (b : Bool) (l : Labels) (less n : ℕ) (k : Stack) (ck : List Frame) → Around program context nodes world known b l less k ck → Out l n ck → spent + less ≤ held → owed k0 ≤ suc (owed k) → suc (4 * left_on k + length k + 1) ≤ before → depth_of ck0 ≡ depth_of ck
+  passed : (b : Bool) (l : Labels) (less n : ℕ) (k : Stack) (ck : List Frame) → Around program context nodes world known b l less k ck → Out l n ck → spent + less ≤ held → owed k0 ≤ suc (owed k) → suc (4 * left_on k + length k + 1) ≤ before.most → depth_of ck0 ≡ depth_of ck
       → A (goes store (Ready (action.Break n) (v ∷ [])) k)
   passed b l less n k ck r eq le q fall deep =
       waits program context nodes before (spent + owed k0) (2 * 1 + held) 0 less known world cf ck0 store (Ready (action.Break n) (v ∷ [])) k (omega (arith, le, q)) fall worlds
@@ -159,6 +160,12 @@ module _ (program : Core) (context : Context) (nodes : ℕ) (before held : ℕ) 
   leaves b l less (suc n) k ck (Bottom c h js i) eq le q low deep = tt
   leaves b l less zero k ck (InFunction m c l' h j js cj i r) eq le q low deep = here c l' h j cj r (eq ∙ past_joins program context nodes world w None 0 js (Caller m None ∷ cj) i) (omega (arith, le, q))
   leaves b l less (suc n) k ck (InFunction m c l' h j js cj i r) eq le q low deep = tt
+  leaves b l less zero k ck (InGathering m c l' h f g done before' next left j js cj i e d r) eq le q low deep =
+      waits_in program context nodes before (spent + owed k0) (2 * 1 + held) 0 h known world cf ck0 store (machine.Give v) (gathering_on f done next left j) (omega (arith, le, q)) (omega (arith, low))
+      (Gathered store (machine.Give v) (gathering_on f done next left j) cf ck0 worlds
+      (gathers_behind program context nodes world known h c l' f g e j cj cf ck0 r done before' v w next left d value
+      (eq ∙ past_joins program context nodes world w None 0 js (Caller m (Some (gathering_of g before' next left)) ∷ Caller 0 None ∷ cj) i)))
+  leaves b l less (suc n) k ck (InGathering m c l' h f g done before' next left j js cj i e d r) eq le q low deep = tt
   leaves b l less zero k ck (InLabel c l' h j cj r) eq le q low deep = here c l' h j cj r (eq ∙ at_label program context nodes world w l'.count cj) (omega (arith, le, q))
   leaves b l less (suc n) k ck (InLabel c l' h j cj r) eq le q low deep =
       passed c l' h n j cj r (eq ∙ past_label program context nodes world w (slice_get l'.exits n) l'.count cj (within program.groups known context.globals nodes c l' h j cj r n)) le (omega (arith, q)) (omega (arith, low)) deep

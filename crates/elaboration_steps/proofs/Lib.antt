@@ -3,6 +3,8 @@ pub mod Rows
 pub mod Levels
 pub mod Values
 pub mod Growth
+pub mod Depth
+pub mod StateDepth
 pub mod Paths
 pub mod Leaving
 pub mod Matching
@@ -11,13 +13,15 @@ pub mod Groups
 pub mod Entering
 pub mod Taking
 pub mod Members
-pub mod Depth
 pub mod Filling
+pub mod Gathering
+pub mod MemberEntries
 pub mod MemberCalls
 pub mod Acting
 pub mod Characters
 pub mod Moving
 pub mod Reducing
+pub mod GatheringCalls
 pub mod Standing
 pub mod Beginning
 pub mod Running

@@ -10,7 +10,7 @@ use Rattle.core_ir.specs.Executions as execution
 use Rattle.core_ir.specs.Expressions as core
 use Rattle.core_ir.specs.Expressions.{NoExp, Bind, Break, Core}
 use Rattle.core_ir.specs.CoreMachine as core_machine
-use Rattle.core_ir.specs.CoreMachine.{Frame, Arguments, Looping, Caller, Join, Focus, Eval, Give, focused, at}
+use Rattle.core_ir.specs.CoreMachine.{Frame, Arguments, Looping, Caller, Join, Focus, Eval, Give, focused, at, depth_of}
 use Rattle.typed_tree.specs.Patterns.{Pat, Found, matches}
 use Rattle.typed_tree.specs.PatternWeights.{pattern_weight}
 use Rattle.typed_tree.specs.Language.{Exp, Cases, NoCase, ACase}
@@ -32,8 +32,9 @@ use Rattle.elaboration_forms.specs.Elaborates.{Elaborates, ElaboratesCases}
 use Rattle.elaboration_values.specs.Belonging.{Known, Belongs, AlikeFound, EnvironmentBelongs}
 use Rattle.elaboration_values.proofs.Belong.{patterns, names_extend}
 use Rattle.elaboration_steps.specs.Stacks.{Passed, Labels, labels_of, with_own_label, scope, Coded, CodedPattern, WorldBelongs, StateBelongs, AtCode, Around, InBranch, InCase}
-use Rattle.elaboration_steps.specs.Follows.{owed, CasesMeet, Acts}
+use Rattle.elaboration_steps.specs.Follows.{Start, owed, CasesMeet, Acts}
 use Rattle.elaboration_steps.proofs.Values.{values_belong}
+use Rattle.elaboration_steps.proofs.Levels.{joins_level}
 use Rattle.elaboration_steps.proofs.Paths.{nothing_more, steps, stops, does_then, stops_then, acts_ahead, acts_behind}
 
 pub one_more : (n : ℕ) → 1 + n ≡ suc n
@@ -63,7 +64,7 @@ module _ (program : Core) (context : Context) (nodes : ℕ) where
       → EnvironmentBelongs known context.globals s.places env vals → Coded program.groups known context.globals b (labels_of s) e env c vals
   coded known b s e env c vals eq code names = record { places = s.places; code = subst (λ n. Elaborates program.groups b (record s { names = n }) e c) eq code; names = names }
 
-  module _ (before held : ℕ) (known : List Known) (world : World) (store : Store) (k0 : Stack) (worlds : WorldBelongs program.groups known context.globals store world) where
+  module _ (before : Start) (held : ℕ) (known : List Known) (world : World) (store : Store) (k0 : Stack) (worlds : WorldBelongs program.groups known context.globals store world) where
     abbrev A : ℕ → Focus → List Frame → Act → Type 0
     A = Acts program context nodes before held known world store k0
 
@@ -74,16 +75,16 @@ module _ (program : Core) (context : Context) (nodes : ℕ) where
     pub fails_follow : (spent n : ℕ) (env : List core_value.Value) (ck : List Frame) → spent ≤ 2 * n + held → A spent (Eval fails env) ck (fails_to_match n)
     fails_follow spent n env ck le =
         let z : 1 ≤ length pattern_failed = some_text in
-        stops program context nodes spent (2 * (n + length pattern_failed) + held) 0 (weighing (1 + length pattern_failed)) world (Eval fails env) ck (execution.Traps pattern_failed) refl (omega (arith, le, z)) (omega arith)
+        stops program context nodes before spent (2 * (n + length pattern_failed) + held) 0 (weighing (1 + length pattern_failed)) world (Eval fails env) ck (execution.Traps pattern_failed) refl (omega (arith, le, z)) (omega arith)
 
     -- one pattern: Core comes to its checks by a step, and behind them to a state that belongs to the next one
     pub pattern_lands : (p : Pat) (e : Exp) (env : Environment) (c : core.Exp) (vals : List core_value.Value) (b : Bool) (l : Labels) (less : ℕ) (next : List Value → machine.Focus) (k : Stack) (ck joins : List Frame) (v : Value) (w : core_value.Value) (m n spent : ℕ) (cf0 : Focus) (ck0 : List Frame)
         → (code : CodedPattern program.groups known context.globals b l p e env c vals) → Belongs known v w → Meets p w → Joins joins
         → ((vs : List Value) (env' : List core_value.Value) (js : List Frame) → Joins js → Coded program.groups known context.globals b l e (extended vs env) code.body env' → StateBelongs program context nodes world known less (next vs) k (Eval code.body env') (js ++ ck))
         → focused program context nodes world cf0 ck0 ≡ Go (weighing m) [] world (at program context nodes (Eval c (w ∷ vals)) (joins ++ ck))
-        → spent + m + 2 * trying p v + less + owed k0 ≤ 2 * n + held + owed k + 1 → spent + m + 2 * trying p v ≤ 2 * n + held + 1
+        → spent + m + 2 * trying p v + less + owed k0 ≤ 2 * n + held + owed k + 1 → spent + m + 2 * trying p v ≤ 2 * n + held + 1 → depth_of ck ≤ depth_of ck0
         → A spent cf0 ck0 (on_match (matches p (shape_of v)) (λ vs. Goes (weighing n) store (next vs) k) (fails_to_match n))
-    pattern_lands p e env c vals b l less next k ck joins v w m n spent cf0 ck0 code value meets js lands eq le lt =
+    pattern_lands p e env c vals b l less next k ck joins v w m n spent cf0 ck0 code value meets js lands eq le lt low =
         go (matches p (shape_of v)) (matches p w) (both.0) (decide program context nodes world p (Named (length vals)) (w ∷ vals) w (joins ++ ck) (reads_new vals w) meets)
       where
         c' : Checked
@@ -106,8 +107,9 @@ module _ (program : Core) (context : Context) (nodes : ℕ) where
         go None None a d =
             let z : 1 ≤ length pattern_failed = some_text in
             let y : tried + 1 ≡ 2 * trying p v = tries in
-            stops_then program context nodes tried spent (2 * (n + length pattern_failed) + held) 0 (weighing m) (weighing (1 + length pattern_failed)) world cf0 ck0 _ (joins ++ ck) (Eval fails (d.0)) ((d.1) ++ (joins ++ ck)) (execution.Traps pattern_failed)
+            stops_then program context nodes tried before spent (2 * (n + length pattern_failed) + held) 0 (weighing m) (weighing (1 + length pattern_failed)) world cf0 ck0 _ (joins ++ ck) (Eval fails (d.0)) ((d.1) ++ (joins ++ ck)) (execution.Traps pattern_failed)
             begins (d.2 fails code.body) refl (omega (arith, lt, z, y)) (omega arith) (omega arith)
+            (λ e. let a : depth_of ((d.1) ++ (joins ++ ck)) ≡ depth_of (joins ++ ck) = joins_level (d.1) (joins ++ ck) (d.4) in let b : depth_of (joins ++ ck) ≡ depth_of ck = joins_level joins ck js in omega (arith, a, b, low))
         go None (Some ws) a d = absurd a
         go (Some vs) None a d = absurd a
         go (Some vs) (Some ws) a d =
@@ -122,11 +124,11 @@ module _ (program : Core) (context : Context) (nodes : ℕ) where
     pub pattern_follows : (p : Pat) (e : Exp) (env : Environment) (c : core.Exp) (vals : List core_value.Value) (b : Bool) (l : Labels) (less : ℕ) (k : Stack) (ck joins : List Frame) (v : Value) (w : core_value.Value) (m n spent : ℕ) (cf0 : Focus) (ck0 : List Frame)
         → CodedPattern program.groups known context.globals b l p e env c vals → Belongs known v w → Meets p w → Joins joins → Around program context nodes world known b l less k ck
         → focused program context nodes world cf0 ck0 ≡ Go (weighing m) [] world (at program context nodes (Eval c (w ∷ vals)) (joins ++ ck))
-        → spent + m + 2 * trying p v + less + owed k0 ≤ 2 * n + held + owed k + 1 → spent + m + 2 * trying p v ≤ 2 * n + held + 1
+        → spent + m + 2 * trying p v + less + owed k0 ≤ 2 * n + held + owed k + 1 → spent + m + 2 * trying p v ≤ 2 * n + held + 1 → depth_of ck ≤ depth_of ck0
         → A spent cf0 ck0 (on_match (matches p (shape_of v)) (λ vs. Goes (weighing n) store (machine.Eval e (extended vs env)) (Joining ∷ k)) (fails_to_match n))
-    pattern_follows p e env c vals b l less k ck joins v w m n spent cf0 ck0 code value meets js around eq le lt =
+    pattern_follows p e env c vals b l less k ck joins v w m n spent cf0 ck0 code value meets js around eq le lt low =
         pattern_lands p e env c vals b l less (λ vs. machine.Eval e (extended vs env)) (Joining ∷ k) ck joins v w m n spent cf0 ck0 code value meets js
-        (λ vs env' js h r. AtCode b l e (extended vs env) (Joining ∷ k) code.body env' (js ++ ck) r (InBranch b l less k js ck h around)) eq le lt
+        (λ vs env' js h r. AtCode b l e (extended vs env) (Joining ∷ k) code.body env' (js ++ ck) r (InBranch b l less k js ck h around)) eq le lt low
 
     -- the cases of a switch, from the first that is left
     pub cases_follow : (cases : Cases) (places : List Place) (env : Environment) (c : core.Exp) (vals : List core_value.Value) (level : ℕ) (b : Bool) (l : Labels) (less : ℕ) (k : Stack) (ck : List Frame) (v : Value) (w : core_value.Value) (n spent : ℕ)

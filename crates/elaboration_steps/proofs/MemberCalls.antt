@@ -1,7 +1,6 @@
 -- Built-in functions that are values are called: Core enters their bodies.
-use Rattle.std.proofs.Common.{◌≡◌, ℕ, zero, suc, ◌+◌, ◌*◌, ◌≤◌, Bool, true, false, List, [], ◌∷◌, ◌++◌, length, Option, Some, None, slice_get, refl, sym, ap, ◌∙◌, subst, arith}
-use Rattle.std.specs.Prelude.{cond, nat_eq, codes, pos, replicate}
-use Rattle.std.proofs.lemmas.Bool.{eq-eqb}
+use Rattle.std.proofs.Common.{◌≡◌, inr, ℕ, zero, suc, ◌+◌, ◌*◌, ◌≤◌, Bool, true, false, List, [], ◌∷◌, ◌++◌, length, Option, Some, None, slice_get, refl, sym, ap, ◌∙◌, subst, arith}
+use Rattle.std.specs.Prelude.{codes, pos, replicate}
 use Rattle.mo_num.specs.declared.kind.Kind.TheVariants as kind
 use Rattle.mo_values.specs.declared.operation.Operation.{Operation}
 use Rattle.mo_values.specs.declared.operation.Operation.TheVariants as op
@@ -20,7 +19,7 @@ use Rattle.core_ir.specs.Values as core_value
 use Rattle.core_ir.specs.Values.{Handle}
 use Rattle.core_ir.specs.Primitives as primitives
 use Rattle.core_ir.specs.Worlds.{MadeGroup, World, Context}
-use Rattle.core_ir.specs.Executions.{Go}
+use Rattle.core_ir.specs.Executions.{Go, heavier}
 use Rattle.core_ir.specs.Writing.{num}
 use Rattle.core_ir.specs.Expressions as core
 use Rattle.core_ir.specs.Expressions.{NoExp, Core}
@@ -42,7 +41,7 @@ use Rattle.mo_machine.specs.Configurations.{live_on}
 use Rattle.mo_machine.specs.Frames as machine
 use Rattle.mo_machine.specs.Frames.{Operands, Returning, Stack, Ready}
 use Rattle.mo_machine.specs.Jumps.{on_stack}
-use Rattle.mo_machine.specs.Members.{call_member, in_frame, sized, each, elements, cells_code, each_code, next_char, next_char_at, number_in, char_code, iterator_code, next_code, element_code, is_mutable}
+use Rattle.mo_machine.specs.Members.{call_member, in_frame, sized, each, elements, calls_code, cells_code, each_code, next_char, next_char_at, number_in, char_code, iterator_code, next_code, element_code, is_mutable}
 use Rattle.elaboration.specs.Scopes.{Local, one, two, name}
 use Rattle.elaboration.specs.Members as members
 use Rattle.elaboration.specs.Members.{Elements, Places, Characters, Steps, form_of, number_of, parameters_of, nearest, own_body, own_group, function_of, element, place, next_by, iterator, let_in, does}
@@ -50,15 +49,17 @@ use Rattle.elaboration.specs.Meeting.{Reads, Comes, There}
 use Rattle.elaboration.proofs.Coming.{step, seq, on_one, reads_more, name_gives}
 use Rattle.elaboration_forms.specs.Elaborates.{HasGroups, Elaborates}
 use Rattle.elaboration_values.specs.Belonging.{Known, OfFunctions, OfMember, code_in, Names, Belongs, EachBelongs, EnvironmentBelongs}
-use Rattle.elaboration_steps.specs.Stacks.{Labels, no_labels, scope, IsGoal, alone, goal_at, HeldAt, MemberBelongs, WorldBelongs, StateBelongs, Standing, making_array, AtCode, AtAction, AtValue, AtRaising, behind_place, Later, Around, InFunction, InOperands, InHolding}
-use Rattle.elaboration_steps.specs.Follows.{owed, IsFollowed, Suits, Acts}
+use Rattle.elaboration_steps.specs.Stacks.{Labels, no_labels, scope, IsGoal, alone, goal_at, HeldAt, MemberBelongs, WorldBelongs, StateBelongs, Standing, making_array, AtCode, AtValue, AtRaising, behind_place, Later, Around, InFunction, InOperands, InHolding, Gathered}
+use Rattle.elaboration_steps.specs.Follows.{Start, owed, Suits, Acts}
 use Rattle.elaboration_steps.proofs.Depth.{as_deep}
-use Rattle.elaboration_steps.proofs.Members.{own_there, held_none, held_one, held_two, alone_body, alone_parameters, alone_holds_none, first_place, over_both, elements_elaborate, places_elaborate, mutable_same}
+use Rattle.elaboration_steps.proofs.Members.{held_none, held_one, held_two, alone_holds_none, first_place, over_both, elements_elaborate, places_elaborate, mutable_same}
 use Rattle.elaboration_steps.proofs.Filling.{cells_making, each_making, replicated, ElementsAlike, elements_alike, fills, reads}
+use Rattle.elaboration_steps.proofs.Gathering.{gathers_first}
+use Rattle.elaboration_steps.proofs.MemberEntries as entries
 use Rattle.elaboration_steps.proofs.Paths.{nothing_more, does_then, does_then_in}
 use Rattle.elaboration_steps.proofs.Values.{leaf_same, place_same, same_cell, Both, get_both}
 use Rattle.elaboration_values.proofs.Messages.{messages}
-use Rattle.elaboration_steps.proofs.Rows.{alone_row, row_goal, member_acts}
+use Rattle.elaboration_steps.proofs.Rows.{alone_row, member_acts}
 
 abbrev some_or : Value → Option Value → Value
 some_or d None = d
@@ -67,7 +68,11 @@ some_or d (Some v) = v
 some_value : (u v : Value) → Some u ≡ Some v → u ≡ v
 some_value u v e = ap (some_or u) e
 
-module _ (program : Core) (context : Context) (nodes : ℕ) (before supply : ℕ) (known : List Known) (world : World) (store : Store) (k : Stack) (worlds : WorldBelongs program.groups known context.globals store world) (spent : ℕ) (cf : Focus) (ck : List Frame) where
+pub first_member : (n : ℕ) (m : Member) (holds : Values) (code : Code) → code_in (Some (OfMember m holds)) n ≡ Some code → (n ≡ 0) × (BuiltInCode m holds ≡ code)
+first_member zero m holds code z = (refl, let y : Some (BuiltInCode m holds) ≡ Some code = z in cc)
+first_member (suc n) m holds code z = absurd (let y : None ≡ Some code = z in cc)
+
+module _ (program : Core) (context : Context) (nodes : ℕ) (before : Start) (supply : ℕ) (known : List Known) (world : World) (store : Store) (k : Stack) (worlds : WorldBelongs program.groups known context.globals store world) (spent : ℕ) (cf : Focus) (ck : List Frame) where
   abbrev T : Act → Type 0
   T a = Acts program context nodes before supply known world store k spent cf ck (on_stack store a k)
 
@@ -86,19 +91,9 @@ module _ (program : Core) (context : Context) (nodes : ℕ) (before supply : ℕ
       abbrev Called : List core_value.Value → Type 0
       Called ws = focused program context nodes world cf ck ≡ called program context nodes world (shape.Function h) ws None others
 
-      there : slice_get program.groups made.code ≡ Some (own_group (form_of m) (length made.seen) g.levels g.n)
-      there = ap (λ n. slice_get program.groups n) g.code ∙ own_there program.groups (form_of m) (length made.seen) g.levels g.n g.there
-
       enters : (ws : List core_value.Value) (c : core.Exp) → Called ws → length ws ≡ parameters_of (form_of m) → own_body (form_of m) (length made.seen) g.levels g.n ≡ c
           → focused program context nodes world cf ck ≡ Go (weighing (1 + 0)) [] world (at program context nodes (Eval c (ws ++ inner)) inside)
-      enters ws c eq many is =
-          eq
-          ∙ (ap (λ o. on_some (stuck program context nodes world) o (λ g. on_some (stuck program context nodes world) (slice_get program.groups g.code) (λ i. cond (nat_eq (length g.seen) i.sees) (core_machine.entered program context nodes world h.group ws g.seen None others i.bodies h.member) (stuck program context nodes world)))) stands
-          ∙ (ap (λ o. on_some (stuck program context nodes world) o (λ i. cond (nat_eq (length made.seen) i.sees) (core_machine.entered program context nodes world h.group ws made.seen None others i.bodies h.member) (stuck program context nodes world))) there
-          ∙ (ap (λ t. cond t (core_machine.entered program context nodes world h.group ws made.seen None others (own_group (form_of m) (length made.seen) g.levels g.n).bodies h.member) (stuck program context nodes world)) (eq-eqb (length made.seen) (length made.seen) refl)
-          ∙ (ap (λ n. core_machine.entered program context nodes world h.group ws made.seen None others (own_group (form_of m) (length made.seen) g.levels g.n).bodies n) first
-          ∙ (ap (λ t. cond t (Go (weighing (1 + 0)) [] world (at program context nodes (Eval (own_body (form_of m) (length made.seen) g.levels g.n) (ws ++ inner)) inside)) (stuck program context nodes world)) (eq-eqb (length ws) (parameters_of (form_of m)) many)
-          ∙ ap (λ c. Go (weighing (1 + 0)) [] world (at program context nodes (Eval c (ws ++ inner)) inside)) is)))))
+      enters ws c eq many is = entries.enters program context nodes before supply known world store k worlds spent cf ck m holds h made stands first g (λ d. d) 0 None others (λ s. refl) ws c eq many is
 
       -- where Core comes to by further steps, for a reduction of this weight
       lands_by : (by n less' : ℕ) (ws : List core_value.Value) (c : core.Exp) (f' : Focus) (k' : List Frame) (f : machine.Focus) → Called ws → length ws ≡ parameters_of (form_of m) → own_body (form_of m) (length made.seen) g.levels g.n ≡ c
@@ -108,10 +103,10 @@ module _ (program : Core) (context : Context) (nodes : ℕ) (before supply : ℕ
           ([], nothing_more known) refl worlds state
 
       lands_at : (n : ℕ) (ws : List core_value.Value) (c : core.Exp) (f' : Focus) (k' : List Frame) (f : machine.Focus) → Called ws → length ws ≡ parameters_of (form_of m) → own_body (form_of m) (length made.seen) g.levels g.n ≡ c
-          → Comes program context nodes world n (Eval c (ws ++ inner)) inside f' k' → n ≤ 1 → Standing program context nodes world known less store f (Returning 0 ∷ k) f' k' → T (acts.Goes (weighing 1) store f (Returning 0 ∷ []))
-      lands_at n ws c f' k' f eq many is path light stands =
+          → Comes program context nodes world n (Eval c (ws ++ inner)) inside f' k' → depth_of k' ≡ 16 + depth_of others → n ≤ 1 → Standing program context nodes world known less store f (Returning 0 ∷ k) f' k' → T (acts.Goes (weighing 1) store f (Returning 0 ∷ []))
+      lands_at n ws c f' k' f eq many is path depth light stands =
           does_then_in program context nodes n before (spent + owed k) (2 * 1 + supply) 0 less (weighing (1 + 0)) [] known known world world cf ck (Eval c (ws ++ inner)) inside f' k' store f (Returning 0 ∷ k) (enters ws c eq many is) path (omega (arith, paid, light)) (omega arith)
-          ([], nothing_more known) refl stands
+          ([], nothing_more known) refl (inr (let z : live_on k ≡ 16 + nodes + depth_of others = as_deep program.groups known context.globals nodes b l less k others around in omega (arith, z, depth))) stands
 
       lands_in : (n : ℕ) (ws : List core_value.Value) (c : core.Exp) (f' : Focus) (k' : List Frame) (f : machine.Focus) → Called ws → length ws ≡ parameters_of (form_of m) → own_body (form_of m) (length made.seen) g.levels g.n ≡ c
           → Comes program context nodes world n (Eval c (ws ++ inner)) inside f' k' → n ≤ 1 → StateBelongs program context nodes world known less f (Returning 0 ∷ k) f' k' → T (acts.Goes (weighing 1) store f (Returning 0 ∷ []))
@@ -120,40 +115,10 @@ module _ (program : Core) (context : Context) (nodes : ℕ) (before supply : ℕ
       -- one operation or a print, with these values
       row_enters : (a : Action) (vs : List Value) (v : core_value.Value) (ws : List core_value.Value) (e : core.Exp) → Called ws → length ws ≡ parameters_of (form_of m) → own_body (form_of m) (length made.seen) g.levels g.n ≡ core.Do (goal_at no_labels a) (one e)
           → ((k : List Frame) → Comes program context nodes world 0 (Eval e (ws ++ inner)) k (Give v) k) → IsGoal false a → EachBelongs known vs (v ∷ []) → T (acts.Goes (weighing 1) store (Ready a vs) (Returning 0 ∷ []))
-      row_enters a vs v ws e eq many is path may r =
-          lands_in 0 ws (core.Do goal (one e)) (Give v) (Arguments goal [] NoExp (ws ++ inner) ∷ inside) (Ready a vs) eq many is
-          (step program context nodes world 0 0 (Eval (core.Do goal (one e)) (ws ++ inner)) inside (Eval e (ws ++ inner)) (Arguments goal [] NoExp (ws ++ inner) ∷ inside) refl (Give v) (Arguments goal [] NoExp (ws ++ inner) ∷ inside) refl (path (Arguments goal [] NoExp (ws ++ inner) ∷ inside)))
-          (omega arith)
-          (AtAction a vs (Returning 0 ∷ k) (Give v) (Arguments goal [] NoExp (ws ++ inner) ∷ inside) (record {
-            b = false;
-            l = no_labels;
-            values = v ∷ [];
-            vals = ws ++ inner;
-            weight = 0;
-            less = less;
-            f' = Give v;
-            ck' = Arguments goal [] NoExp (ws ++ inner) ∷ inside;
-            others = inside;
-            arguments = r;
-            may = may;
-            path = There 0 (Give v) (Arguments goal [] NoExp (ws ++ inner) ∷ inside);
-            acts = refl;
-            level = refl;
-            paid = omega arith;
-            around = InFunction 0 b l less k [] others tt around;
-          }))
-        where
-          goal : core.Goal
-          goal = goal_at no_labels a
+      row_enters = entries.row_enters program context nodes before supply known world store k worlds spent cf ck m holds h made stands first g (λ d. d) 0 None others (λ s. refl) less (InFunction 0 b l less k [] others tt around) (omega arith) paid
 
       alone_enters : (a : Action) (vs : List Value) (ws : List core_value.Value) → alone m ≡ Some a → g.levels ≡ [] → length vs ≡ 1 → EachBelongs known vs ws → Called ws → T (acts.Goes (weighing 1) store (Ready a vs) (Returning 0 ∷ []))
-      alone_enters a [] ws is none many r eq = absurd (let z : 0 ≡ 1 = many in cc)
-      alone_enters a (v ∷ u ∷ vs) ws is none many r eq = absurd (let z : suc (suc (length vs)) ≡ 1 = many in let y : ⊥ = omega (arith, z) in y)
-      alone_enters a (v ∷ []) [] is none many r eq = absurd r
-      alone_enters a (v ∷ []) (w ∷ x ∷ ws) is none many r eq = absurd (r.1)
-      alone_enters a (v ∷ []) (w ∷ []) is none many r eq =
-          row_enters a (v ∷ []) w (w ∷ []) (core.Name 0) eq (sym (alone_parameters m a is)) (ap (λ ls. own_body (form_of m) (length made.seen) ls g.n) none ∙ alone_body m a (length made.seen) g.n is)
-          (λ k. step program context nodes world 0 0 (Eval (core.Name 0) (w ∷ inner)) k (Give w) k refl (Give w) k refl (There 0 (Give w) k)) (row_goal m a (alone_row m a is)) r
+      alone_enters = entries.alone_enters program context nodes before supply known world store k worlds spent cf ck m holds h made stands first g (λ d. d) 0 None others (λ s. refl) less (InFunction 0 b l less k [] others tt around) (omega arith) paid
 
       -- the size of what it holds
       size_enters : (o : Operation) (level : ℕ) (v : Value) (u : core_value.Value) → Reads made.seen level u → Belongs known v u → parameters_of (form_of m) ≡ 0
@@ -272,9 +237,35 @@ module _ (program : Core) (context : Context) (nodes : ℕ) (before supply : ℕ
           by : (o : Option ℕ) → natural_of x ≡ o → T (in_frame store (sized cells_code (AValue v NoValue) o))
           by None e = tt
           by (Some count) e =
-              lands_at 0 (x ∷ y ∷ []) (does primitive.ArrayInit (nearest 0 2)) (Give y) last (machine.Eval (source.Do making_array (cells_code count)) (AValue v NoValue)) eq many is path (omega arith)
+              lands_at 0 (x ∷ y ∷ []) (does primitive.ArrayInit (nearest 0 2)) (Give y) last (machine.Eval (source.Do making_array (cells_code count)) (AValue v NoValue)) eq many is path refl (omega arith)
               (fills program context nodes world known less store worlds b l k others around (AValue v NoValue) (cells_code count) (replicate count v) (replicate count y) (Give y) last (cells_making v count) (replicated known v y value count)
               (ap (λ o. operated program context nodes world inside (on_some primitives.Stuck o (λ n. primitives.celled context.head world.store (replicate n y)))) e) (omega arith))
+
+      -- a function makes the elements
+      tabulate_enters : (n v : Value) (x y : core_value.Value) → Belongs known n x → Belongs known v y → 2 ≡ parameters_of (form_of m) → own_body (form_of m) (length made.seen) g.levels g.n ≡ core.Do core.Tabulate (nearest 0 2) → Called (x ∷ y ∷ [])
+          → T (in_frame store (sized (calls_code 0) (AValue v NoValue) (natural_of (shape_of n))))
+      tabulate_enters n v x y number value many is eq = by (natural_of (shape_of n)) (ap (λ o. natural_in (leaf_if (node.Number kind.Nat) o)) (sym (leaf_same known n x number)))
+        where
+          env : List core_value.Value
+          env = x ∷ y ∷ inner
+
+          last : List Frame
+          last = Arguments core.Tabulate (x ∷ []) NoExp env ∷ inside
+
+          path : Comes program context nodes world 0 (Eval (core.Do core.Tabulate (nearest 0 2)) env) inside (Give y) last
+          path =
+              step program context nodes world 0 0 (Eval (core.Do core.Tabulate (nearest 0 2)) env) inside (Eval (core.Name 0) env) (Arguments core.Tabulate [] (one (core.Name 1)) env ∷ inside) refl (Give y) last refl
+              (step program context nodes world 0 0 (Eval (core.Name 0) env) (Arguments core.Tabulate [] (one (core.Name 1)) env ∷ inside) (Give x) (Arguments core.Tabulate [] (one (core.Name 1)) env ∷ inside) refl (Give y) last refl
+              (step program context nodes world 0 0 (Give x) (Arguments core.Tabulate [] (one (core.Name 1)) env ∷ inside) (Eval (core.Name 1) env) last refl (Give y) last refl
+              (step program context nodes world 0 0 (Eval (core.Name 1) env) last (Give y) last refl (Give y) last refl (There 0 (Give y) last))))
+
+          by : (o : Option ℕ) → natural_of x ≡ o → T (in_frame store (sized (calls_code 0) (AValue v NoValue) o))
+          by None e = tt
+          by (Some count) e =
+              lands_at 0 (x ∷ y ∷ []) (core.Do core.Tabulate (nearest 0 2)) (Give y) last (machine.Eval (source.Do making_array (calls_code 0 count)) (AValue v NoValue)) eq many is path refl (omega arith)
+              (Gathered store (machine.Eval (source.Do making_array (calls_code 0 count)) (AValue v NoValue)) (Returning 0 ∷ k) (Give y) last worlds
+              (gathers_first program context nodes world known less b l v y value k others (Give y) last around count
+              (ap (λ o. on_some (stuck program context nodes world) o (λ n. heavier 1 (core_machine.gather program context nodes world y 0 n [] inside))) e)))
 
       array_enters : (a : Value) (x : core_value.Value) → Belongs known a x → 1 ≡ parameters_of (form_of m) → own_body (form_of m) (length made.seen) g.levels g.n ≡ does primitive.ArrayThaw (nearest 0 1) → Called (x ∷ [])
           → T (in_frame store (each action.New (elements a)))
@@ -291,7 +282,7 @@ module _ (program : Core) (context : Context) (nodes : ℕ) (before supply : ℕ
           by (Some vs) e =
               lands_at 0 (x ∷ []) (does primitive.ArrayThaw (nearest 0 1)) (Give x) last (machine.Eval (source.Do making_array (each_code action.New 0 vs)) (machine_value.gathered vs)) eq many is
               (step program context nodes world 0 0 (Eval (does primitive.ArrayThaw (nearest 0 1)) (x ∷ inner)) inside (Eval (core.Name 0) (x ∷ inner)) last refl (Give x) last refl
-              (step program context nodes world 0 0 (Eval (core.Name 0) (x ∷ inner)) last (Give x) last refl (Give x) last refl (There 0 (Give x) last))) (omega arith)
+              (step program context nodes world 0 0 (Eval (core.Name 0) (x ∷ inner)) last (Give x) last refl (Give x) last refl (There 0 (Give x) last))) refl (omega arith)
               (fills program context nodes world known less store worlds b l k others around (machine_value.gathered vs) (each_code action.New 0 vs) vs (e.0) (Give x) last (each_making action.New vs) (e.2)
               (ap (λ o. operated program context nodes world inside (on_some primitives.Stuck o (primitives.celled context.head world.store))) (e.1)) (omega arith))
 
@@ -310,7 +301,7 @@ module _ (program : Core) (context : Context) (nodes : ℕ) (before supply : ℕ
           by (Some cs) e =
               lands_at 0 (x ∷ []) (does primitive.ArrayFreeze (nearest 0 1)) (Give x) last (machine.Eval (source.Do making_array (each_code action.Read 0 cs)) (machine_value.gathered cs)) eq many is
               (step program context nodes world 0 0 (Eval (does primitive.ArrayFreeze (nearest 0 1)) (x ∷ inner)) inside (Eval (core.Name 0) (x ∷ inner)) last refl (Give x) last refl
-              (step program context nodes world 0 0 (Eval (core.Name 0) (x ∷ inner)) last (Give x) last refl (Give x) last refl (There 0 (Give x) last))) (omega arith)
+              (step program context nodes world 0 0 (Eval (core.Name 0) (x ∷ inner)) last (Give x) last refl (Give x) last refl (There 0 (Give x) last))) refl (omega arith)
               (reads program context nodes world known less store worlds b l k others around (machine_value.gathered cs) (each_code action.Read 0 cs) cs (e.0) (Give x) last (each_making action.Read cs) (e.2)
               (ap (λ o. operated program context nodes world inside (on_some primitives.Stuck o (λ cs. on_some primitives.Stuck (primitives.all_held world.store cs) (primitives.whole_array context.head world.store)))) (e.1)) (omega arith))
 
@@ -412,102 +403,105 @@ module _ (program : Core) (context : Context) (nodes : ℕ) (before supply : ℕ
       alone_called m holds a [] vs ws is many g r eq =
           member_acts store T m a [] vs (alone_row m a is) tt (alone_enters m holds h made stands first (g.0) a vs ws is (held_none known made.seen g.0.levels (g.1)) many r eq)
 
-      by_member : (m : Member) (holds : Values) (hs vs : List Value) (ws : List core_value.Value) → Held m holds hs → IsFollowed m → ((a : Action) → alone m ≡ Some a → length vs ≡ 1) → EachBelongs known vs ws → Entered ws → T (call_member store m hs vs)
-      by_member member.DebugPrint holds hs vs ws g f many r eq = alone_called member.DebugPrint holds action.Print hs vs ws refl (many action.Print refl) g r eq
-      by_member member.DebugTrap holds hs vs ws g f many r eq = alone_called member.DebugTrap holds (action.Operate op.Trap) hs vs ws refl (many (action.Operate op.Trap) refl) g r eq
-      by_member member.ErrorReject holds hs vs ws g f many r eq = alone_called member.ErrorReject holds (action.Operate op.RejectError) hs vs ws refl (many (action.Operate op.RejectError) refl) g r eq
-      by_member member.ErrorMessage holds hs vs ws g f many r eq = alone_called member.ErrorMessage holds (action.Operate op.Message) hs vs ws refl (many (action.Operate op.Message) refl) g r eq
-      by_member member.ErrorCode holds hs vs ws g f many r eq = alone_called member.ErrorCode holds (action.Operate op.Code) hs vs ws refl (many (action.Operate op.Code) refl) g r eq
-      by_member member.NatToText holds hs vs ws g f many r eq = alone_called member.NatToText holds (action.Operate (op.ToText kind.Nat)) hs vs ws refl (many (action.Operate (op.ToText kind.Nat)) refl) g r eq
-      by_member member.IntToText holds hs vs ws g f many r eq = alone_called member.IntToText holds (action.Operate (op.ToText kind.Int)) hs vs ws refl (many (action.Operate (op.ToText kind.Int)) refl) g r eq
-      by_member member.PrincipalFromActor holds hs vs ws g f many r eq = alone_called member.PrincipalFromActor holds (action.Operate op.PrincipalOf) hs vs ws refl (many (action.Operate op.PrincipalOf) refl) g r eq
-      by_member member.ArraySize holds [] vs ws g f many r eq = tt
-      by_member member.ArraySize holds (v ∷ []) [] [] g f many r eq =
+      by_member : (m : Member) (holds : Values) (hs vs : List Value) (ws : List core_value.Value) → Held m holds hs → ((a : Action) → alone m ≡ Some a → length vs ≡ 1) → EachBelongs known vs ws → Entered ws → T (call_member store m hs vs)
+      by_member member.DebugPrint holds hs vs ws g many r eq = alone_called member.DebugPrint holds action.Print hs vs ws refl (many action.Print refl) g r eq
+      by_member member.DebugTrap holds hs vs ws g many r eq = alone_called member.DebugTrap holds (action.Operate op.Trap) hs vs ws refl (many (action.Operate op.Trap) refl) g r eq
+      by_member member.ErrorReject holds hs vs ws g many r eq = alone_called member.ErrorReject holds (action.Operate op.RejectError) hs vs ws refl (many (action.Operate op.RejectError) refl) g r eq
+      by_member member.ErrorMessage holds hs vs ws g many r eq = alone_called member.ErrorMessage holds (action.Operate op.Message) hs vs ws refl (many (action.Operate op.Message) refl) g r eq
+      by_member member.ErrorCode holds hs vs ws g many r eq = alone_called member.ErrorCode holds (action.Operate op.Code) hs vs ws refl (many (action.Operate op.Code) refl) g r eq
+      by_member member.NatToText holds hs vs ws g many r eq = alone_called member.NatToText holds (action.Operate (op.ToText kind.Nat)) hs vs ws refl (many (action.Operate (op.ToText kind.Nat)) refl) g r eq
+      by_member member.IntToText holds hs vs ws g many r eq = alone_called member.IntToText holds (action.Operate (op.ToText kind.Int)) hs vs ws refl (many (action.Operate (op.ToText kind.Int)) refl) g r eq
+      by_member member.PrincipalFromActor holds hs vs ws g many r eq = alone_called member.PrincipalFromActor holds (action.Operate op.PrincipalOf) hs vs ws refl (many (action.Operate op.PrincipalOf) refl) g r eq
+      by_member member.ArraySize holds [] vs ws g many r eq = tt
+      by_member member.ArraySize holds (v ∷ []) [] [] g many r eq =
           let o = held_one known made.seen g.0.levels v (g.1) in
           size_enters member.ArraySize holds h made stands first (g.0) op.ArraySize (o.0) v (o.1) (o.3) (o.4) refl (ap (λ ls. own_body (form_of member.ArraySize) (length made.seen) ls g.0.n) (o.2)) eq
-      by_member member.ArraySize holds (v ∷ []) [] (w ∷ ws) g f many r eq = absurd r
-      by_member member.ArraySize holds (v ∷ []) (u ∷ vs) ws g f many r eq = tt
-      by_member member.ArraySize holds (v ∷ x ∷ hs) vs ws g f many r eq = tt
-      by_member member.TextSize holds [] vs ws g f many r eq = tt
-      by_member member.TextSize holds (v ∷ []) [] [] g f many r eq =
+      by_member member.ArraySize holds (v ∷ []) [] (w ∷ ws) g many r eq = absurd r
+      by_member member.ArraySize holds (v ∷ []) (u ∷ vs) ws g many r eq = tt
+      by_member member.ArraySize holds (v ∷ x ∷ hs) vs ws g many r eq = tt
+      by_member member.TextSize holds [] vs ws g many r eq = tt
+      by_member member.TextSize holds (v ∷ []) [] [] g many r eq =
           let o = held_one known made.seen g.0.levels v (g.1) in
           size_enters member.TextSize holds h made stands first (g.0) op.TextSize (o.0) v (o.1) (o.3) (o.4) refl (ap (λ ls. own_body (form_of member.TextSize) (length made.seen) ls g.0.n) (o.2)) eq
-      by_member member.TextSize holds (v ∷ []) [] (w ∷ ws) g f many r eq = absurd r
-      by_member member.TextSize holds (v ∷ []) (u ∷ vs) ws g f many r eq = tt
-      by_member member.TextSize holds (v ∷ x ∷ hs) vs ws g f many r eq = tt
-      by_member member.ArrayVals holds [] vs ws g f many r eq = tt
-      by_member member.ArrayVals holds (v ∷ []) [] [] g f many r eq =
+      by_member member.TextSize holds (v ∷ []) [] (w ∷ ws) g many r eq = absurd r
+      by_member member.TextSize holds (v ∷ []) (u ∷ vs) ws g many r eq = tt
+      by_member member.TextSize holds (v ∷ x ∷ hs) vs ws g many r eq = tt
+      by_member member.ArrayVals holds [] vs ws g many r eq = tt
+      by_member member.ArrayVals holds (v ∷ []) [] [] g many r eq =
           let o = held_one known made.seen g.0.levels v (g.1) in
           iterator_enters member.ArrayVals holds h made stands first (g.0) member.NextVal (o.0) v (o.1) (o.3) (o.4) refl (ap (λ ls. own_body (form_of member.ArrayVals) (length made.seen) ls g.0.n) (o.2))
           (g.0.there.0 ∙ ap (λ ls. Some (own_group (Steps Elements) (suc (suc (length made.seen))) (members.first ls ∷ suc (length made.seen) ∷ []) 0)) (o.2), tt) eq
-      by_member member.ArrayVals holds (v ∷ []) [] (w ∷ ws) g f many r eq = absurd r
-      by_member member.ArrayVals holds (v ∷ []) (u ∷ vs) ws g f many r eq = tt
-      by_member member.ArrayVals holds (v ∷ x ∷ hs) vs ws g f many r eq = tt
-      by_member member.ArrayKeys holds [] vs ws g f many r eq = tt
-      by_member member.ArrayKeys holds (v ∷ []) [] [] g f many r eq =
+      by_member member.ArrayVals holds (v ∷ []) [] (w ∷ ws) g many r eq = absurd r
+      by_member member.ArrayVals holds (v ∷ []) (u ∷ vs) ws g many r eq = tt
+      by_member member.ArrayVals holds (v ∷ x ∷ hs) vs ws g many r eq = tt
+      by_member member.ArrayKeys holds [] vs ws g many r eq = tt
+      by_member member.ArrayKeys holds (v ∷ []) [] [] g many r eq =
           let o = held_one known made.seen g.0.levels v (g.1) in
           iterator_enters member.ArrayKeys holds h made stands first (g.0) member.NextKey (o.0) v (o.1) (o.3) (o.4) refl (ap (λ ls. own_body (form_of member.ArrayKeys) (length made.seen) ls g.0.n) (o.2))
           (g.0.there.0 ∙ ap (λ ls. Some (own_group (Steps Places) (suc (suc (length made.seen))) (members.first ls ∷ suc (length made.seen) ∷ []) 0)) (o.2), tt) eq
-      by_member member.ArrayKeys holds (v ∷ []) [] (w ∷ ws) g f many r eq = absurd r
-      by_member member.ArrayKeys holds (v ∷ []) (u ∷ vs) ws g f many r eq = tt
-      by_member member.ArrayKeys holds (v ∷ x ∷ hs) vs ws g f many r eq = tt
-      by_member member.TextChars holds [] vs ws g f many r eq = tt
-      by_member member.TextChars holds (v ∷ []) [] [] g f many r eq =
+      by_member member.ArrayKeys holds (v ∷ []) [] (w ∷ ws) g many r eq = absurd r
+      by_member member.ArrayKeys holds (v ∷ []) (u ∷ vs) ws g many r eq = tt
+      by_member member.ArrayKeys holds (v ∷ x ∷ hs) vs ws g many r eq = tt
+      by_member member.TextChars holds [] vs ws g many r eq = tt
+      by_member member.TextChars holds (v ∷ []) [] [] g many r eq =
           let o = held_one known made.seen g.0.levels v (g.1) in
           iterator_enters member.TextChars holds h made stands first (g.0) member.NextChar (o.0) v (o.1) (o.3) (o.4) refl (ap (λ ls. own_body (form_of member.TextChars) (length made.seen) ls g.0.n) (o.2))
           (g.0.there.0 ∙ ap (λ ls. Some (own_group (Steps Characters) (suc (suc (length made.seen))) (members.first ls ∷ suc (length made.seen) ∷ []) 0)) (o.2), tt) eq
-      by_member member.TextChars holds (v ∷ []) [] (w ∷ ws) g f many r eq = absurd r
-      by_member member.TextChars holds (v ∷ []) (u ∷ vs) ws g f many r eq = tt
-      by_member member.TextChars holds (v ∷ x ∷ hs) vs ws g f many r eq = tt
-      by_member member.NextVal holds [] vs ws g f many r eq = tt
-      by_member member.NextVal holds (v ∷ []) vs ws g f many r eq = tt
-      by_member member.NextVal holds (u ∷ v ∷ []) [] [] g f many r eq =
+      by_member member.TextChars holds (v ∷ []) [] (w ∷ ws) g many r eq = absurd r
+      by_member member.TextChars holds (v ∷ []) (u ∷ vs) ws g many r eq = tt
+      by_member member.TextChars holds (v ∷ x ∷ hs) vs ws g many r eq = tt
+      by_member member.NextVal holds [] vs ws g many r eq = tt
+      by_member member.NextVal holds (v ∷ []) vs ws g many r eq = tt
+      by_member member.NextVal holds (u ∷ v ∷ []) [] [] g many r eq =
           let o = held_two known made.seen g.0.levels u v (g.1) in
           elements_enter member.NextVal holds h made stands first (g.0) (o.0) (o.1) u v (o.2) (o.3) (o.5) (o.6) refl (ap (λ ls. own_body (form_of member.NextVal) (length made.seen) ls g.0.n) (o.4)) eq
-      by_member member.NextVal holds (u ∷ v ∷ []) [] (w ∷ ws) g f many r eq = absurd r
-      by_member member.NextVal holds (u ∷ v ∷ []) (x ∷ vs) ws g f many r eq = tt
-      by_member member.NextVal holds (u ∷ v ∷ x ∷ hs) vs ws g f many r eq = tt
-      by_member member.NextKey holds [] vs ws g f many r eq = tt
-      by_member member.NextKey holds (v ∷ []) vs ws g f many r eq = tt
-      by_member member.NextKey holds (u ∷ v ∷ []) [] [] g f many r eq =
+      by_member member.NextVal holds (u ∷ v ∷ []) [] (w ∷ ws) g many r eq = absurd r
+      by_member member.NextVal holds (u ∷ v ∷ []) (x ∷ vs) ws g many r eq = tt
+      by_member member.NextVal holds (u ∷ v ∷ x ∷ hs) vs ws g many r eq = tt
+      by_member member.NextKey holds [] vs ws g many r eq = tt
+      by_member member.NextKey holds (v ∷ []) vs ws g many r eq = tt
+      by_member member.NextKey holds (u ∷ v ∷ []) [] [] g many r eq =
           let o = held_two known made.seen g.0.levels u v (g.1) in
           places_enter member.NextKey holds h made stands first (g.0) (o.0) (o.1) u v (o.2) (o.3) (o.5) (o.6) refl (ap (λ ls. own_body (form_of member.NextKey) (length made.seen) ls g.0.n) (o.4)) eq
-      by_member member.NextKey holds (u ∷ v ∷ []) [] (w ∷ ws) g f many r eq = absurd r
-      by_member member.NextKey holds (u ∷ v ∷ []) (x ∷ vs) ws g f many r eq = tt
-      by_member member.NextKey holds (u ∷ v ∷ x ∷ hs) vs ws g f many r eq = tt
-      by_member member.ArrayTabulate holds hs vs ws g f many r eq = absurd f
-      by_member member.ArrayInit holds (h0 ∷ hs) vs ws g f many r eq = tt
-      by_member member.ArrayInit holds [] [] ws g f many r eq = tt
-      by_member member.ArrayInit holds [] (n ∷ []) ws g f many r eq = tt
-      by_member member.ArrayInit holds [] (n ∷ v ∷ []) [] g f many r eq = absurd r
-      by_member member.ArrayInit holds [] (n ∷ v ∷ []) (x ∷ []) g f many r eq = absurd (r.1)
-      by_member member.ArrayInit holds [] (n ∷ v ∷ []) (x ∷ y ∷ []) g f many r eq = init_enters member.ArrayInit holds h made stands first (g.0) n v x y (r.0) (r.1.0) refl refl eq
-      by_member member.ArrayInit holds [] (n ∷ v ∷ []) (x ∷ y ∷ z ∷ ws) g f many r eq = absurd (r.1.1)
-      by_member member.ArrayInit holds [] (n ∷ v ∷ u ∷ vs) ws g f many r eq = tt
-      by_member member.ArrayThaw holds (h0 ∷ hs) vs ws g f many r eq = tt
-      by_member member.ArrayThaw holds [] [] ws g f many r eq = tt
-      by_member member.ArrayThaw holds [] (a ∷ []) [] g f many r eq = absurd r
-      by_member member.ArrayThaw holds [] (a ∷ []) (x ∷ []) g f many r eq = array_enters member.ArrayThaw holds h made stands first (g.0) a x (r.0) refl refl eq
-      by_member member.ArrayThaw holds [] (a ∷ []) (x ∷ y ∷ ws) g f many r eq = absurd (r.1)
-      by_member member.ArrayThaw holds [] (a ∷ u ∷ vs) ws g f many r eq = tt
-      by_member member.ArrayFreeze holds (h0 ∷ hs) vs ws g f many r eq = tt
-      by_member member.ArrayFreeze holds [] [] ws g f many r eq = tt
-      by_member member.ArrayFreeze holds [] (a ∷ []) [] g f many r eq = absurd r
-      by_member member.ArrayFreeze holds [] (a ∷ []) (x ∷ []) g f many r eq = held_enters member.ArrayFreeze holds h made stands first (g.0) a x (r.0) refl refl eq
-      by_member member.ArrayFreeze holds [] (a ∷ []) (x ∷ y ∷ ws) g f many r eq = absurd (r.1)
-      by_member member.ArrayFreeze holds [] (a ∷ u ∷ vs) ws g f many r eq = tt
-      by_member member.NextChar holds [] vs ws g f many r eq = tt
-      by_member member.NextChar holds (v ∷ []) vs ws g f many r eq = tt
-      by_member member.NextChar holds (u ∷ v ∷ []) [] [] g f many r eq =
+      by_member member.NextKey holds (u ∷ v ∷ []) [] (w ∷ ws) g many r eq = absurd r
+      by_member member.NextKey holds (u ∷ v ∷ []) (x ∷ vs) ws g many r eq = tt
+      by_member member.NextKey holds (u ∷ v ∷ x ∷ hs) vs ws g many r eq = tt
+      by_member member.ArrayTabulate holds (h0 ∷ hs) vs ws g many r eq = tt
+      by_member member.ArrayTabulate holds [] [] ws g many r eq = tt
+      by_member member.ArrayTabulate holds [] (n ∷ []) ws g many r eq = tt
+      by_member member.ArrayTabulate holds [] (n ∷ v ∷ []) [] g many r eq = absurd r
+      by_member member.ArrayTabulate holds [] (n ∷ v ∷ []) (x ∷ []) g many r eq = absurd (r.1)
+      by_member member.ArrayTabulate holds [] (n ∷ v ∷ []) (x ∷ y ∷ []) g many r eq = tabulate_enters member.ArrayTabulate holds h made stands first (g.0) n v x y (r.0) (r.1.0) refl refl eq
+      by_member member.ArrayTabulate holds [] (n ∷ v ∷ []) (x ∷ y ∷ z ∷ ws) g many r eq = absurd (r.1.1)
+      by_member member.ArrayTabulate holds [] (n ∷ v ∷ u ∷ vs) ws g many r eq = tt
+      by_member member.ArrayInit holds (h0 ∷ hs) vs ws g many r eq = tt
+      by_member member.ArrayInit holds [] [] ws g many r eq = tt
+      by_member member.ArrayInit holds [] (n ∷ []) ws g many r eq = tt
+      by_member member.ArrayInit holds [] (n ∷ v ∷ []) [] g many r eq = absurd r
+      by_member member.ArrayInit holds [] (n ∷ v ∷ []) (x ∷ []) g many r eq = absurd (r.1)
+      by_member member.ArrayInit holds [] (n ∷ v ∷ []) (x ∷ y ∷ []) g many r eq = init_enters member.ArrayInit holds h made stands first (g.0) n v x y (r.0) (r.1.0) refl refl eq
+      by_member member.ArrayInit holds [] (n ∷ v ∷ []) (x ∷ y ∷ z ∷ ws) g many r eq = absurd (r.1.1)
+      by_member member.ArrayInit holds [] (n ∷ v ∷ u ∷ vs) ws g many r eq = tt
+      by_member member.ArrayThaw holds (h0 ∷ hs) vs ws g many r eq = tt
+      by_member member.ArrayThaw holds [] [] ws g many r eq = tt
+      by_member member.ArrayThaw holds [] (a ∷ []) [] g many r eq = absurd r
+      by_member member.ArrayThaw holds [] (a ∷ []) (x ∷ []) g many r eq = array_enters member.ArrayThaw holds h made stands first (g.0) a x (r.0) refl refl eq
+      by_member member.ArrayThaw holds [] (a ∷ []) (x ∷ y ∷ ws) g many r eq = absurd (r.1)
+      by_member member.ArrayThaw holds [] (a ∷ u ∷ vs) ws g many r eq = tt
+      by_member member.ArrayFreeze holds (h0 ∷ hs) vs ws g many r eq = tt
+      by_member member.ArrayFreeze holds [] [] ws g many r eq = tt
+      by_member member.ArrayFreeze holds [] (a ∷ []) [] g many r eq = absurd r
+      by_member member.ArrayFreeze holds [] (a ∷ []) (x ∷ []) g many r eq = held_enters member.ArrayFreeze holds h made stands first (g.0) a x (r.0) refl refl eq
+      by_member member.ArrayFreeze holds [] (a ∷ []) (x ∷ y ∷ ws) g many r eq = absurd (r.1)
+      by_member member.ArrayFreeze holds [] (a ∷ u ∷ vs) ws g many r eq = tt
+      by_member member.NextChar holds [] vs ws g many r eq = tt
+      by_member member.NextChar holds (v ∷ []) vs ws g many r eq = tt
+      by_member member.NextChar holds (u ∷ v ∷ []) [] [] g many r eq =
           let o = held_two known made.seen g.0.levels u v (g.1) in
           characters_enter member.NextChar holds h made stands first (g.0) (o.0) (o.1) u v (o.2) (o.3) (o.5) (o.6) refl (ap (λ ls. own_body (form_of member.NextChar) (length made.seen) ls g.0.n) (o.4)) eq
-      by_member member.NextChar holds (u ∷ v ∷ []) [] (w ∷ ws) g f many r eq = absurd r
-      by_member member.NextChar holds (u ∷ v ∷ []) (x ∷ vs) ws g f many r eq = tt
-      by_member member.NextChar holds (u ∷ v ∷ x ∷ hs) vs ws g f many r eq = tt
-
-    first_member : (n : ℕ) (m : Member) (holds : Values) (code : Code) → code_in (Some (OfMember m holds)) n ≡ Some code → (n ≡ 0) × (BuiltInCode m holds ≡ code)
-    first_member zero m holds code z = (refl, let y : Some (BuiltInCode m holds) ≡ Some code = z in cc)
-    first_member (suc n) m holds code z = absurd (let y : None ≡ Some code = z in cc)
+      by_member member.NextChar holds (u ∷ v ∷ []) [] (w ∷ ws) g many r eq = absurd r
+      by_member member.NextChar holds (u ∷ v ∷ []) (x ∷ vs) ws g many r eq = tt
+      by_member member.NextChar holds (u ∷ v ∷ x ∷ hs) vs ws g many r eq = tt
 
     pub member_called : (m : Member) (holds : Values) (vs : List Value) (ws : List core_value.Value) (h : Handle) → Names known (BuiltInCode m holds) h → EachBelongs known vs ws → Suits known (Ready action.Call (BuiltIn m holds ∷ vs)) k
         → focused program context nodes world cf ck ≡ called program context nodes world (shape.Function h) ws None others → T (call_member store m (listed holds) vs)
@@ -524,4 +518,4 @@ module _ (program : Core) (context : Context) (nodes : ℕ) (before supply : ℕ
             let f : (i : MadeGroup) × (slice_get world.groups h.group ≡ Some i) × MemberBelongs program.groups known context.globals n inside i = worlds.groups.each h.group (OfMember n inside) e in
             let g : MemberBelongs program.groups known context.globals m holds (f.0) =
             subst (λ i. MemberBelongs program.groups known context.globals i holds (f.0)) y (subst (λ i. MemberBelongs program.groups known context.globals n i (f.0)) u (f.2)) in
-            by_member h (f.0) (f.1) (c.0) m holds (listed holds) vs ws (g, g.held) (suits.0) (suits.1) r eq
+            by_member h (f.0) (f.1) (c.0) m holds (listed holds) vs ws (g, g.held) suits r eq

@@ -36,8 +36,8 @@ use Rattle.elaboration.specs.Meeting.{There}
 use Rattle.elaboration.proofs.Coming.{assoc, pop, step}
 use Rattle.elaboration_forms.specs.Elaborates.{IsPlace, Elaborates, ElaboratesAll, ElaboratesNames, ElaboratesCases, HasGroups}
 use Rattle.elaboration_values.specs.Belonging.{Known, Belongs, EachBelongs, StandsAt, EnvironmentBelongs}
-use Rattle.elaboration_steps.specs.Stacks.{Labels, labels_of, with_label, with_own_label, scope, goal_at, IsGoal, row_of, update_with, turn_with, body_cases, joinings, Passing, Written, Arrived, Coded, CodedAll, with_operands, Calling, WorldBelongs, StateBelongs, AtCode, AtWhile, AtRepeat, AtAction, AtValue, AtEnd, AtBody, AtTurned, AtGoing, AtLeft, AtCallee, AtMaking, AtMade, AtApplied, AtInner, AtBack, AtFunction, Later, LaterBy, AtRaising, AtWriting, AtWritten, Around, Bottom, InFunction, InOperands, InMaking, InCalling, InHolding, InChoosing, InLet, InSwitch, InLabel, InTesting, InTurning, InRepeating, InRetesting, InTry, InUpdating, InGoing, InTurn, InBody, InBranch, InCase}
-use Rattle.elaboration_steps.specs.Follows.{further, rank, owed, MoveFollows}
+use Rattle.elaboration_steps.specs.Stacks.{Labels, labels_of, with_label, with_own_label, scope, goal_at, IsGoal, row_of, update_with, turn_with, body_cases, joinings, Passing, Written, Arrived, Coded, CodedAll, with_operands, Calling, WorldBelongs, StateBelongs, AtCode, AtWhile, AtRepeat, AtAction, AtValue, AtEnd, AtBody, AtTurned, AtGoing, AtLeft, AtCallee, AtMaking, AtMade, AtApplied, AtInner, AtBack, AtFunction, Later, LaterBy, AtRaising, AtWriting, AtWritten, Around, Bottom, InFunction, InGathering, InOperands, InMaking, InCalling, InHolding, InChoosing, InLet, InSwitch, InLabel, InTesting, InTurning, InRepeating, InRetesting, InTry, InUpdating, InGoing, InTurn, InBody, InBranch, InCase}
+use Rattle.elaboration_steps.specs.Follows.{start, further, owed, MoveFollows}
 use Rattle.elaboration_steps.proofs.Rows.{some_action}
 use Rattle.elaboration_steps.proofs.Leaving.{past_skips}
 use Rattle.elaboration_steps.proofs.Members.{IsCalled, done_or_called, value_called, as_many_operands, only_name, held_more}
@@ -82,7 +82,7 @@ row_form _ a l ds fs names n e = absurd (let z : None ≡ Some a = e in cc)
 
 module _ (program : Core) (context : Context) (nodes : ℕ) (held : ℕ) (known : List Known) (world : World) (store : Store) (worlds : WorldBelongs program.groups known context.globals store world) where
   abbrev M : machine.Focus → Stack → Focus → List Frame → Move → Type 0
-  M f k = MoveFollows program context nodes (rank f k) held known world store k
+  M f k = MoveFollows program context nodes (start f k) held known world store k
 
   -- the operands of an action that is no built-in function
   abbrev Operated : Bool → Scope → Action → Exps → core.Exp → Type 0
@@ -103,11 +103,11 @@ module _ (program : Core) (context : Context) (nodes : ℕ) (held : ℕ) (known 
   name_found b l x env k vals ck p None is around h = tt
   name_found b l x env k vals ck (Local level) (Some v) is around h =
       let s : StandsAt known context.globals vals (Local level) v = h v refl in
-      steps program context nodes 0 (rank (machine.Eval (source.Name x) env) k) (owed k) held 0 held known world _ ck (Give (s.0)) ck store (machine.Give v) k
+      steps program context nodes 0 (start (machine.Eval (source.Name x) env) k) (owed k) held 0 held known world _ ck (Give (s.0)) ck store (machine.Give v) k
       (ap (λ o. on_some (stuck program context nodes world) o (λ w. Go (weighing 0) [] world (at program context nodes (Give w) ck))) (s.1.1)) refl (omega arith) worlds (AtValue b l v (s.0) k ck (s.2) around)
   name_found b l x env k vals ck (Own i) (Some v) is around h =
       let s : StandsAt known context.globals vals (Own i) v = h v refl in
-      steps program context nodes 0 (rank (machine.Eval (source.Name x) env) k) (owed k) held 0 held known world _ ck (Give (s.0)) ck store (machine.Give v) k
+      steps program context nodes 0 (start (machine.Eval (source.Name x) env) k) (owed k) held 0 held known world _ ck (Give (s.0)) ck store (machine.Give v) k
       (ap (λ o. on_some (stuck program context nodes world) o (λ w. Go (weighing 0) [] world (at program context nodes (Give w) ck))) (s.1)) refl (omega arith) worlds (AtValue b l v (s.0) k ck (s.2) around)
   name_found b l x env k vals ck Nowhere (Some v) is around h = absurd is
 
@@ -123,14 +123,14 @@ module _ (program : Core) (context : Context) (nodes : ℕ) (held : ℕ) (known 
         → StateBelongs program context nodes world known held f more f' ck' → M (machine.Eval e env) k (Eval c vals) ck (Moved f more)
     looked e f more c c' f' ck' is eq deep q state =
         subst (λ x. M (machine.Eval e env) k (Eval x vals) ck (Moved f more)) (sym is)
-        (steps program context nodes 0 (rank (machine.Eval e env) k) (owed k) held 0 held known world (Eval c' vals) ck f' ck' store f more eq deep (omega (arith, q)) worlds state)
+        (steps program context nodes 0 (start (machine.Eval e env) k) (owed k) held 0 held known world (Eval c' vals) ck f' ck' store f more eq deep (omega (arith, q)) worlds state)
 
     code : (e : Exp) (c : core.Exp) → Code e c → Coded program.groups known context.globals b l e env c vals
     code e c r = record { places = places; code = r; names = names }
 
     operands_follow : (a : Action) (es : Exps) (c : core.Exp) → Operated b s a es c → M (machine.Eval (source.Do a es) env) k (Eval c vals) ck (move (machine.Eval (source.Do a es) env) k)
     operands_follow a source.NoExp c r =
-        waits program context nodes (rank (machine.Eval (source.Do a source.NoExp) env) k) (owed k) held 0 held known world (Eval c vals) ck store (Ready a []) k (omega arith) (let z : further (Ready a []) ≤ 3 = most (Ready a []) in omega (arith, z)) worlds
+        waits program context nodes (start (machine.Eval (source.Do a source.NoExp) env) k) (owed k) held 0 held known world (Eval c vals) ck store (Ready a []) k (omega arith) (let z : further (Ready a []) ≤ 3 = most (Ready a []) in omega (arith, z)) worlds
         (AtAction a [] k (Eval c vals) ck (record {
           b = b;
           l = l;
@@ -178,7 +178,7 @@ module _ (program : Core) (context : Context) (nodes : ℕ) (held : ℕ) (known 
         → M (machine.Eval (source.Do action.Call (source.AnExp (source.Do (action.BuiltIn m) es) args)) env) k (Eval c vals) ck (move (machine.Eval (source.Do action.Call (source.AnExp (source.Do (action.BuiltIn m) es) args)) env) k)
     callee_follows m a es args c row r =
         subst (λ x. M (machine.Eval (source.Do action.Call (source.AnExp (source.Do (action.BuiltIn m) es) args)) env) k (Eval x vals) ck (Moved (machine.Eval (source.Do (action.BuiltIn m) es) env) (Operands action.Call [] args env ∷ k))) (sym (r.6 ∙ row_form m a l (r.0) (r.1) (length vals) (r.2) row))
-        (waits program context nodes (rank (machine.Eval (source.Do action.Call (source.AnExp (source.Do (action.BuiltIn m) es) args)) env) k) (owed k) held 0 held known world (Eval (core.Do (goal_at l a) (append (r.0) (r.1))) vals) ck store
+        (waits program context nodes (start (machine.Eval (source.Do action.Call (source.AnExp (source.Do (action.BuiltIn m) es) args)) env) k) (owed k) held 0 held known world (Eval (core.Do (goal_at l a) (append (r.0) (r.1))) vals) ck store
         (machine.Eval (source.Do (action.BuiltIn m) es) env) (Operands action.Call [] args env ∷ k) (omega arith) (omega arith) worlds
         (AtCallee b l m a es args env k (r.0) (r.1) vals ck row (record { places = places; code = r.3; names = names }) (record { places = places; code = r.4; names = names }) around))
 
@@ -208,7 +208,7 @@ module _ (program : Core) (context : Context) (nodes : ℕ) (held : ℕ) (known 
         let z : 0 + length vals ≡ length vals = omega arith in
         let function : core.Exp = core.Functions (number_of (form_of m) (r.1)) (core.Name 0) in
         subst (λ x. M (machine.Eval (source.Do (action.BuiltIn m) source.NoExp) env) k (Eval x vals) ck (Moved (Ready (action.BuiltIn m) []) k)) (sym (r.4 ∙ ap (λ ds. bind_all ds function) (r.2)))
-        (waits program context nodes (rank (machine.Eval (source.Do (action.BuiltIn m) source.NoExp) env) k) (owed k) held 0 held known world (Eval function vals) ck store (Ready (action.BuiltIn m) []) k (omega arith) (omega arith) worlds
+        (waits program context nodes (start (machine.Eval (source.Do (action.BuiltIn m) source.NoExp) env) k) (owed k) held 0 held known world (Eval function vals) ck store (Ready (action.BuiltIn m) []) k (omega arith) (omega arith) worlds
         (AtFunction m [] k (Eval function vals) ck (record {
           b = b;
           l = l;
@@ -264,7 +264,7 @@ module _ (program : Core) (context : Context) (nodes : ℕ) (held : ℕ) (known 
     looks_follow (source.Frame n e) c r = absurd r
     looks_follow (source.Label e) c r =
         subst (λ x. M (machine.Eval (source.Label e) env) k (Eval x vals) ck (move (machine.Eval (source.Label e) env) k)) (sym (r.2))
-        (steps program context nodes 1 (rank (machine.Eval (source.Label e) env) k) (owed k) held 0 held known world (Eval (core.Label (r.0)) vals) ck (Eval (r.0) vals) (core_machine.Labelled ∷ ck) store (machine.Eval e env) (machine.Labelled ∷ k) refl refl (omega arith) worlds
+        (steps program context nodes 1 (start (machine.Eval (source.Label e) env) k) (owed k) held 0 held known world (Eval (core.Label (r.0)) vals) ck (Eval (r.0) vals) (core_machine.Labelled ∷ ck) store (machine.Eval e env) (machine.Labelled ∷ k) refl refl (omega arith) worlds
         (AtCode b (with_label l) e env (machine.Labelled ∷ k) (r.0) vals (core_machine.Labelled ∷ ck) (record { places = places; code = r.1; names = names }) (InLabel b l held k ck around)))
     looks_follow (source.While x d) c r = tt
     looks_follow (source.Repeat d x) c r = tt
@@ -277,7 +277,7 @@ module _ (program : Core) (context : Context) (nodes : ℕ) (held : ℕ) (known 
         turn = around_all (on_nearest q (beside 1 s)).checks fails (r.1)
     looks_follow (source.Try e q d) c r =
         subst (λ x. M (machine.Eval (source.Try e q d) env) k (Eval x vals) ck (move (machine.Eval (source.Try e q d) env) k)) (sym (r.5))
-        (steps program context nodes 1 (rank (machine.Eval (source.Try e q d) env) k) (owed k) held 0 held known world (Eval (core.Try (r.0) handler) vals) ck (Eval (r.0) vals) (core_machine.Trying handler vals ∷ ck) store (machine.Eval e env) (machine.Trying q d env ∷ k) refl refl (omega arith) worlds
+        (steps program context nodes 1 (start (machine.Eval (source.Try e q d) env) k) (owed k) held 0 held known world (Eval (core.Try (r.0) handler) vals) ck (Eval (r.0) vals) (core_machine.Trying handler vals ∷ ck) store (machine.Eval e env) (machine.Trying q d env ∷ k) refl refl (omega arith) worlds
         (AtCode true l e env (machine.Trying q d env ∷ k) (r.0) vals (core_machine.Trying handler vals ∷ ck) (record { places = places; code = subst (λ x. Elaborates program.groups x s e (r.0)) (r.2) (r.3); names = names })
         (InTry l held q d env k handler vals ck (record { places = places; body = r.1; code = subst (λ x. Elaborates program.groups x (behind (on_nearest q s) s) d (r.1)) (r.2) (r.4); is = refl; names = names })
         (subst (λ x. Around program context nodes world known x l held k ck) (r.2) around))))
@@ -302,8 +302,9 @@ module _ (program : Core) (context : Context) (nodes : ℕ) (held : ℕ) (known 
   passes_follow : (b : Bool) (l : Labels) (v : Value) (w : core_value.Value) (k : Stack) (ck : List Frame) → Belongs known v w → Around program context nodes world known b l held k ck → M (machine.Give v) k (Give w) ck (move (machine.Give v) k)
   passes_follow b l v w k ck value (Bottom c h js i) = tt
   passes_follow b l v w k ck value (InFunction n c m h j js cj i r) = tt
+  passes_follow b l v w k ck value (InGathering n c m h f g done before next left j js cj i e d r) = tt
   passes_follow b l v w k ck value (InOperands x m h a done source.NoExp env j before later vals cj g e d r) =
-      waits program context nodes (rank (machine.Give v) k) (owed k) held 0 held known world (Give w) ck store (Ready a (done ++ v ∷ [])) j (omega arith) (let z : further (Ready a (done ++ v ∷ [])) ≤ 3 = most (Ready a (done ++ v ∷ [])) in omega (arith, z)) worlds
+      waits program context nodes (start (machine.Give v) k) (owed k) held 0 held known world (Give w) ck store (Ready a (done ++ v ∷ [])) j (omega arith) (let z : further (Ready a (done ++ v ∷ [])) ≤ 3 = most (Ready a (done ++ v ∷ [])) in omega (arith, z)) worlds
       (AtAction a (done ++ v ∷ []) j (Give w) ck (record {
         b = x;
         l = m;
@@ -324,12 +325,12 @@ module _ (program : Core) (context : Context) (nodes : ℕ) (held : ℕ) (known 
       }))
   passes_follow b l v w k ck value (InOperands x m h a done (source.AnExp f fs) env j before later vals cj g e d r) =
       let t : ElaboratesAll program.groups x (scope d.places m vals) (source.AnExp f fs) later = d.code in
-      steps program context nodes 0 (rank (machine.Give v) k) (owed k) held 0 held known world (Give w) ck (Eval (t.0) vals) (Arguments (goal_at m a) (before ++ w ∷ []) (t.1) vals ∷ cj) store (machine.Eval f env) (Operands a (done ++ v ∷ []) fs env ∷ j)
+      steps program context nodes 0 (start (machine.Give v) k) (owed k) held 0 held known world (Give w) ck (Eval (t.0) vals) (Arguments (goal_at m a) (before ++ w ∷ []) (t.1) vals ∷ cj) store (machine.Eval f env) (Operands a (done ++ v ∷ []) fs env ∷ j)
       (ap (λ later. focused program context nodes world (Give w) (Arguments (goal_at m a) before later vals ∷ cj)) (t.4)) refl (omega arith) worlds
       (AtCode x m f env (Operands a (done ++ v ∷ []) fs env ∷ j) (t.0) vals (Arguments (goal_at m a) (before ++ w ∷ []) (t.1) vals ∷ cj) (record { places = d.places; code = t.2; names = d.names })
       (InOperands x m held a (done ++ v ∷ []) fs env j (before ++ w ∷ []) (t.1) vals cj g (each_append known done before v w e value) (record { places = d.places; code = t.3; names = d.names }) r))
   passes_follow b l v w k ck value (InMaking x m h i a done source.NoExp args env j before later arguments vals cj row e d f r) =
-      waits program context nodes (rank (machine.Give v) k) (owed k) held 0 held known world (Give w) ck store (Ready (action.BuiltIn i) (done ++ v ∷ [])) (Operands action.Call [] args env ∷ j) (omega arith) (omega arith) worlds
+      waits program context nodes (start (machine.Give v) k) (owed k) held 0 held known world (Give w) ck store (Ready (action.BuiltIn i) (done ++ v ∷ [])) (Operands action.Call [] args env ∷ j) (omega arith) (omega arith) worlds
       (AtMaking i (done ++ v ∷ []) args env j (Give w) ck (record {
         b = x;
         l = m;
@@ -347,12 +348,12 @@ module _ (program : Core) (context : Context) (nodes : ℕ) (held : ℕ) (known 
       }))
   passes_follow b l v w k ck value (InMaking x m h i a done (source.AnExp g fs) args env j before later arguments vals cj row e d f r) =
       let t : ElaboratesAll program.groups x (scope d.places m vals) (source.AnExp g fs) later = d.code in
-      steps program context nodes 0 (rank (machine.Give v) k) (owed k) held 0 held known world (Give w) ck (Eval (t.0) vals) (Arguments (goal_at m a) (before ++ w ∷ []) (append (t.1) arguments) vals ∷ cj) store (machine.Eval g env) (Operands (action.BuiltIn i) (done ++ v ∷ []) fs env ∷ Operands action.Call [] args env ∷ j)
+      steps program context nodes 0 (start (machine.Give v) k) (owed k) held 0 held known world (Give w) ck (Eval (t.0) vals) (Arguments (goal_at m a) (before ++ w ∷ []) (append (t.1) arguments) vals ∷ cj) store (machine.Eval g env) (Operands (action.BuiltIn i) (done ++ v ∷ []) fs env ∷ Operands action.Call [] args env ∷ j)
       (ap (λ es. focused program context nodes world (Give w) (Arguments (goal_at m a) before (append es arguments) vals ∷ cj)) (t.4)) refl (omega arith) worlds
       (AtCode x m g env (Operands (action.BuiltIn i) (done ++ v ∷ []) fs env ∷ Operands action.Call [] args env ∷ j) (t.0) vals (Arguments (goal_at m a) (before ++ w ∷ []) (append (t.1) arguments) vals ∷ cj) (record { places = d.places; code = t.2; names = d.names })
       (InMaking x m held i a (done ++ v ∷ []) fs args env j (before ++ w ∷ []) (t.1) arguments vals cj row (each_append known done before v w e value) (record { places = d.places; code = t.3; names = d.names }) f r))
   passes_follow b l v w k ck value (InCalling x m h i a holds done source.NoExp env j before later vals cj row e d r) =
-      waits program context nodes (rank (machine.Give v) k) (owed k) held 0 held known world (Give w) ck store (Ready action.Call (BuiltIn i holds ∷ (done ++ v ∷ []))) j (omega arith) (omega arith) worlds
+      waits program context nodes (start (machine.Give v) k) (owed k) held 0 held known world (Give w) ck store (Ready action.Call (BuiltIn i holds ∷ (done ++ v ∷ []))) j (omega arith) (omega arith) worlds
       (AtApplied i a holds (done ++ v ∷ []) j (Give w) ck row (record {
         b = x;
         l = m;
@@ -366,13 +367,13 @@ module _ (program : Core) (context : Context) (nodes : ℕ) (held : ℕ) (known 
       }))
   passes_follow b l v w k ck value (InCalling x m h i a holds done (source.AnExp g fs) env j before later vals cj row e d r) =
       let t : ElaboratesAll program.groups x (scope d.places m vals) (source.AnExp g fs) later = d.code in
-      steps program context nodes 0 (rank (machine.Give v) k) (owed k) held 0 held known world (Give w) ck (Eval (t.0) vals) (Arguments (goal_at m a) (before ++ w ∷ []) (t.1) vals ∷ cj) store (machine.Eval g env) (Operands action.Call (BuiltIn i holds ∷ (done ++ v ∷ [])) fs env ∷ j)
+      steps program context nodes 0 (start (machine.Give v) k) (owed k) held 0 held known world (Give w) ck (Eval (t.0) vals) (Arguments (goal_at m a) (before ++ w ∷ []) (t.1) vals ∷ cj) store (machine.Eval g env) (Operands action.Call (BuiltIn i holds ∷ (done ++ v ∷ [])) fs env ∷ j)
       (ap (λ es. focused program context nodes world (Give w) (Arguments (goal_at m a) before es vals ∷ cj)) (t.4)) refl (omega arith) worlds
       (AtCode x m g env (Operands action.Call (BuiltIn i holds ∷ (done ++ v ∷ [])) fs env ∷ j) (t.0) vals (Arguments (goal_at m a) (before ++ w ∷ []) (t.1) vals ∷ cj) (record { places = d.places; code = t.2; names = d.names })
       (InCalling x m held i a holds (done ++ v ∷ []) fs env j (before ++ w ∷ []) (t.1) vals cj row
       (subst (λ xs. EachBelongs known xs (before ++ w ∷ [])) (assoc (listed holds) done (v ∷ [])) (each_append known (listed holds ++ done) before v w e value)) (record { places = d.places; code = t.3; names = d.names }) r))
   passes_follow b l v w k ck value (InHolding x m h i done env j n levels vals cj e d r) =
-      waits program context nodes (rank (machine.Give v) k) (owed k) held 0 held known world (Give w) ck store (Ready (action.BuiltIn i) (done ++ v ∷ [])) j (omega arith) (omega arith) worlds
+      waits program context nodes (start (machine.Give v) k) (owed k) held 0 held known world (Give w) ck store (Ready (action.BuiltIn i) (done ++ v ∷ [])) j (omega arith) (omega arith) worlds
       (AtFunction i (done ++ v ∷ []) j (Give w) ck (record {
         b = x;
         l = m;
@@ -402,10 +403,10 @@ module _ (program : Core) (context : Context) (nodes : ℕ) (held : ℕ) (known 
   passes_follow b l v w k ck value (InTurn x m h p e env u j c z vals cj i d r) = tt
   passes_follow b l v w k ck value (InBody x m h p e env inner u j c z vals js cj a i d r) = tt
   passes_follow b l v w k ck value (InBranch x m h j joins cj i r) =
-      follows_behind program context nodes world 0 (rank (machine.Give v) k) (owed k) held 0 [] known (Give w) ck (Give w) cj store (machine.Give v) j (pop program context nodes world joins w cj i)
-      (waits program context nodes (rank (machine.Give v) k) (owed k + 0) held 0 held known world (Give w) cj store (machine.Give v) j (omega arith) (omega arith) worlds (AtValue x m v w j cj value r))
+      follows_behind program context nodes world 0 (start (machine.Give v) k) (owed k) held 0 [] known (Give w) ck (Give w) cj store (machine.Give v) j (pop program context nodes world joins w cj i)
+      (waits program context nodes (start (machine.Give v) k) (owed k + 0) held 0 held known world (Give w) cj store (machine.Give v) j (omega arith) (omega arith) worlds (AtValue x m v w j cj value r))
   passes_follow b l v w k ck value (InCase x m h less j vals skips cj i paid r) =
-      does program context nodes (rank (machine.Give v) k) (owed k) held 0 less (weighing 1) [] known known world world (Give w) ck (Give w) cj store (machine.Give v) j
+      does program context nodes (start (machine.Give v) k) (owed k) held 0 less (weighing 1) [] known known world world (Give w) ck (Give w) cj store (machine.Give v) j
       (past_skips program context nodes world w (Some 0) 1 skips (core_machine.Labelled ∷ cj) i) (let z : suc less ≤ held = paid in omega (arith, z)) (omega arith) ([], nothing_more known) refl worlds (AtValue x m v w j cj value r)
 
   -- the operands of a built-in function that is called at once
@@ -413,7 +414,7 @@ module _ (program : Core) (context : Context) (nodes : ℕ) (held : ℕ) (known 
       → CodedAll program.groups known context.globals b l es env later vals → CodedAll program.groups known context.globals b l args env arguments vals → Around program context nodes world known b l held k ck
       → M (machine.Eval (source.Do (action.BuiltIn m) es) env) (Operands action.Call [] args env ∷ k) (Eval (core.Do (goal_at l a) (append later arguments)) vals) ck (move (machine.Eval (source.Do (action.BuiltIn m) es) env) (Operands action.Call [] args env ∷ k))
   callee_looks b l m a source.NoExp args env k later arguments vals ck row d f around =
-      waits program context nodes (rank (machine.Eval (source.Do (action.BuiltIn m) source.NoExp) env) (Operands action.Call [] args env ∷ k)) (owed k) held 0 held known world (Eval (core.Do (goal_at l a) (append later arguments)) vals) ck store (Ready (action.BuiltIn m) []) (Operands action.Call [] args env ∷ k) (omega arith) (omega arith) worlds
+      waits program context nodes (start (machine.Eval (source.Do (action.BuiltIn m) source.NoExp) env) (Operands action.Call [] args env ∷ k)) (owed k) held 0 held known world (Eval (core.Do (goal_at l a) (append later arguments)) vals) ck store (Ready (action.BuiltIn m) []) (Operands action.Call [] args env ∷ k) (omega arith) (omega arith) worlds
       (AtMaking m [] args env k (Eval (core.Do (goal_at l a) (append later arguments)) vals) ck (record {
         b = b;
         l = l;
@@ -431,7 +432,7 @@ module _ (program : Core) (context : Context) (nodes : ℕ) (held : ℕ) (known 
       }))
   callee_looks b l m a (source.AnExp g fs) args env k later arguments vals ck row d f around =
       let t : ElaboratesAll program.groups b (scope d.places l vals) (source.AnExp g fs) later = d.code in
-      steps program context nodes 0 (rank (machine.Eval (source.Do (action.BuiltIn m) (source.AnExp g fs)) env) (Operands action.Call [] args env ∷ k)) (owed k) held 0 held known world _ ck (Eval (t.0) vals) (Arguments (goal_at l a) [] (append (t.1) arguments) vals ∷ ck) store (machine.Eval g env)
+      steps program context nodes 0 (start (machine.Eval (source.Do (action.BuiltIn m) (source.AnExp g fs)) env) (Operands action.Call [] args env ∷ k)) (owed k) held 0 held known world _ ck (Eval (t.0) vals) (Arguments (goal_at l a) [] (append (t.1) arguments) vals ∷ ck) store (machine.Eval g env)
       (Operands (action.BuiltIn m) [] fs env ∷ Operands action.Call [] args env ∷ k)
       (ap (λ es. focused program context nodes world (Eval (core.Do (goal_at l a) (append es arguments)) vals) ck) (t.4)) refl (omega arith) worlds
       (AtCode b l g env (Operands (action.BuiltIn m) [] fs env ∷ Operands action.Call [] args env ∷ k) (t.0) vals (Arguments (goal_at l a) [] (append (t.1) arguments) vals ∷ ck) (record { places = d.places; code = t.2; names = d.names })
@@ -441,7 +442,7 @@ module _ (program : Core) (context : Context) (nodes : ℕ) (held : ℕ) (known 
       → M (machine.Give (BuiltIn m holds)) (Operands action.Call [] args env ∷ k) cf ck (move (machine.Give (BuiltIn m holds)) (Operands action.Call [] args env ∷ k))
   made_moves m holds source.NoExp env k cf ck r =
       let t : r.arguments ≡ NoExp = r.code.code in
-      waits program context nodes (rank (machine.Give (BuiltIn m holds)) (Operands action.Call [] source.NoExp env ∷ k)) (owed k) held 0 held known world cf ck store (Ready action.Call (BuiltIn m holds ∷ [])) k (omega arith) (omega arith) worlds
+      waits program context nodes (start (machine.Give (BuiltIn m holds)) (Operands action.Call [] source.NoExp env ∷ k)) (owed k) held 0 held known world cf ck store (Ready action.Call (BuiltIn m holds ∷ [])) k (omega arith) (omega arith) worlds
       (AtApplied m r.a holds [] k cf ck r.row (record {
         b = r.b;
         l = r.l;
@@ -455,7 +456,7 @@ module _ (program : Core) (context : Context) (nodes : ℕ) (held : ℕ) (known 
       }))
   made_moves m holds (source.AnExp g fs) env k cf ck r =
       let t : ElaboratesAll program.groups r.b (scope r.code.places r.l r.vals) (source.AnExp g fs) r.arguments = r.code.code in
-      does program context nodes (rank (machine.Give (BuiltIn m holds)) (Operands action.Call [] (source.AnExp g fs) env ∷ k)) (owed k) held 0 held (weighing 0) [] known known world world cf ck (Eval (t.0) r.vals) (Arguments (goal_at r.l r.a) r.values (t.1) r.vals ∷ r.others) store
+      does program context nodes (start (machine.Give (BuiltIn m holds)) (Operands action.Call [] (source.AnExp g fs) env ∷ k)) (owed k) held 0 held (weighing 0) [] known known world world cf ck (Eval (t.0) r.vals) (Arguments (goal_at r.l r.a) r.values (t.1) r.vals ∷ r.others) store
       (machine.Eval g env) (Operands action.Call (BuiltIn m holds ∷ []) fs env ∷ k)
       (r.acts ∙ ap (λ es. with_operands program context nodes world known (goal_at r.l r.a) r.values es r.vals r.others) (t.4)) (omega arith) (omega arith) ([], nothing_more known) refl worlds
       (AtCode r.b r.l g env (Operands action.Call (BuiltIn m holds ∷ []) fs env ∷ k) (t.0) r.vals (Arguments (goal_at r.l r.a) r.values (t.1) r.vals ∷ r.others) (record { places = r.code.places; code = t.2; names = r.code.names })
@@ -465,10 +466,10 @@ module _ (program : Core) (context : Context) (nodes : ℕ) (held : ℕ) (known 
   standing : (t : Bool) (k : Stack) (f : machine.Focus) (more : Stack) (cf : Focus) (ck : List Frame) → Passing t k f more → ((g : machine.Focus) (l : Stack) → Passing t k g l → StateBelongs program context nodes world known held g l cf ck)
       → move (machine.Give (leaf (part.Flag t))) k ≡ Reduces → M f more cf ck (move f more)
   standing t k f more cf ck (Written n env) state last =
-      waits program context nodes (rank f more) (owed more) held 0 held known world cf ck store (machine.Give (leaf (part.Flag t))) more (omega arith) (omega arith) worlds (state (machine.Give (leaf (part.Flag t))) more (Arrived n))
+      waits program context nodes (start f more) (owed more) held 0 held known world cf ck store (machine.Give (leaf (part.Flag t))) more (omega arith) (omega arith) worlds (state (machine.Give (leaf (part.Flag t))) more (Arrived n))
   standing t k f more cf ck (Arrived zero) state last = subst (λ x. M (machine.Give (leaf (part.Flag t))) k cf ck x) (sym last) tt
   standing t k f more cf ck (Arrived (suc n)) state last =
-      waits program context nodes (rank f more) (owed more) held 0 held known world cf ck store (machine.Give (leaf (part.Flag t))) (joinings n k) (omega arith) (omega arith) worlds (state (machine.Give (leaf (part.Flag t))) (joinings n k) (Arrived n))
+      waits program context nodes (start f more) (owed more) held 0 held known world cf ck store (machine.Give (leaf (part.Flag t))) (joinings n k) (omega arith) (omega arith) worlds (state (machine.Give (leaf (part.Flag t))) (joinings n k) (Arrived n))
 
   pub moves_follow : (f : machine.Focus) (k : Stack) (cf : Focus) (ck : List Frame) → StateBelongs program context nodes world known held f k cf ck → M f k cf ck (move f k)
   moves_follow f k cf ck (AtCode b l e env j c vals cj code around) = looks_follow b l env j vals cj around code.places code.names e c code.code
@@ -476,9 +477,9 @@ module _ (program : Core) (context : Context) (nodes : ℕ) (held : ℕ) (known 
   moves_follow f k cf ck (AtRepeat b l y x env j d c vals cj p q r) = tt
   moves_follow f k cf ck (AtAction a vs j g cj r) = tt
   moves_follow f k cf ck (AtValue b l v w j cj value around) = passes_follow b l v w j cj value around
-  moves_follow f k cf ck (AtEnd v w g cj value eq paid flat) = (w, value, eq, paid)
+  moves_follow f k cf ck (AtEnd v w g cj value eq paid flat) = (w, value, eq, paid, worlds)
   moves_follow f k cf ck (AtBody b l p e env inner v j c d w vals vals' js cj a value pattern code around) =
-      waits program context nodes (rank f k) (owed k) held 0 held known world cf ck store (machine.Eval e inner) (Switching body_cases inner ∷ machine.Joining ∷ machine.Stepping p v e env ∷ j) (omega arith) (omega arith) worlds
+      waits program context nodes (start f k) (owed k) held 0 held known world cf ck store (machine.Eval e inner) (Switching body_cases inner ∷ machine.Joining ∷ machine.Stepping p v e env ∷ j) (omega arith) (omega arith) worlds
       (AtCode b (with_own_label l) e inner (Switching body_cases inner ∷ machine.Joining ∷ machine.Stepping p v e env ∷ j) d vals' ck code (InBody b l held p e env inner v j c w vals js cj a value pattern around))
   moves_follow f k cf ck (AtTurned b l p e env v j c w vals cj g more q value pattern around) =
       standing true (machine.Stepping p v e env ∷ j) g more _ _ q (λ g2 more2 q2. AtTurned b l p e env v j c w vals cj g2 more2 q2 value pattern around) refl
@@ -492,7 +493,7 @@ module _ (program : Core) (context : Context) (nodes : ℕ) (held : ℕ) (known 
   moves_follow f k cf ck (AtBack b l v w j cj value around) = tt
   moves_follow f k cf ck (AtFunction m vs j g cj r) = tt
   moves_follow f k cf ck (Later g j g2 more cg cj moves none falls owes deep state) =
-      subst (λ m. M g j cg cj m) (sym moves) (waits program context nodes (rank g j) (owed j) held 0 held known world cg cj store g2 more (omega (arith, owes)) falls worlds state)
+      subst (λ m. M g j cg cj m) (sym moves) (waits program context nodes (start g j) (owed j) held 0 held known world cg cj store g2 more (omega (arith, owes)) falls worlds state)
   moves_follow f k cf ck (LaterBy g j n g2 more cg cj moves goes falls owes deep state) = subst (λ m. M g j cg cj m) (sym moves) tt
   moves_follow f k cf ck (AtRaising b l less w i c place cell j others g cj value eq depth fits around) = tt
   moves_follow f k cf ck (AtWriting b l less w c place v cell u j others g cj value new eq depth fits around) = tt

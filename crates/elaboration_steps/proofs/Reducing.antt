@@ -38,7 +38,7 @@ use Rattle.elaboration.proofs.Coming.{step}
 use Rattle.elaboration_forms.specs.Elaborates.{Elaborates, ElaboratesFunctions}
 use Rattle.elaboration_values.specs.Belonging.{Known, OfFunctions, OfMember, code_in, Belongs, EachBelongs, EnvironmentBelongs}
 use Rattle.elaboration_steps.specs.Stacks.{Labels, with_own_label, row_of, spare, scope, while_of, repeat_of, turn_with, Passing, Written, Arrived, Coded, CodedBeside, CodedPattern, WorldBelongs, StateBelongs, AtCode, AtWhile, AtRepeat, AtAction, AtValue, AtEnd, AtBody, AtTurned, AtGoing, AtLeft, AtCallee, AtMaking, AtMade, AtApplied, AtInner, AtBack, AtFunction, Later, LaterBy, AtRaising, AtWriting, AtWritten, HeldAt, Holding, Acting, Calling, Applied, Around, InTesting, InRepeating}
-use Rattle.elaboration_steps.specs.Follows.{further, rank, owed, Suits, Acts}
+use Rattle.elaboration_steps.specs.Follows.{start, further, owed, Suits, Acts}
 use Rattle.elaboration_steps.proofs.Acting.{act_follows, inner_follows}
 use Rattle.elaboration_steps.proofs.Characters.{raises, writes, gives_character}
 use Rattle.elaboration_steps.proofs.Groups.{last_stands, with_members, as_many_bodies, same_nodes, group_names, world_grows}
@@ -73,7 +73,7 @@ further_of_row _ a vs e = absurd (let z : None ≡ Some a = e in cc)
 module _ (program : Core) (context : Context) (nodes : ℕ) (held : ℕ) (known : List Known) (world : World) (store : Store) (worlds_belong : WorldBelongs program.groups known context.globals store world) where
   module _ (b : Bool) (l : Labels) (k : Stack) (ck : List Frame) (around : Around program context nodes world known b l held k ck) (env : Environment) (vals : List core_value.Value) where
     abbrev A : machine.Focus → ℕ → Focus → List Frame → Act → Type 0
-    A f = Acts program context nodes (rank f k) held known world store k
+    A f = Acts program context nodes (start f k) held known world store k
 
     abbrev Code : Exp → core.Exp → Type 0
     Code e c = Coded program.groups known context.globals b (with_own_label l) e env c vals
@@ -82,7 +82,7 @@ module _ (program : Core) (context : Context) (nodes : ℕ) (held : ℕ) (known 
     tests : (f : machine.Focus) (x y : Exp) (c d : core.Exp) (spent : ℕ) → Code x c → Code y d → spent ≤ 2
         → A f spent (Eval (while_of c d) vals) (Looping (while_of c d) vals ∷ core_machine.Labelled ∷ ck) (goes store (machine.Eval x env) (Testing x y env ∷ k))
     tests f x y c d spent p q le =
-        steps program context nodes 0 (rank f k) (spent + owed k) (2 * 1 + held) 0 held known world _ _ (Eval c vals) (Arguments (Choose primitive.Copy d (break_with nothing)) [] NoExp vals ∷ Looping (while_of c d) vals ∷ core_machine.Labelled ∷ ck)
+        steps program context nodes 0 (start f k) (spent + owed k) (2 * 1 + held) 0 held known world _ _ (Eval c vals) (Arguments (Choose primitive.Copy d (break_with nothing)) [] NoExp vals ∷ Looping (while_of c d) vals ∷ core_machine.Labelled ∷ ck)
         store (machine.Eval x env) (Testing x y env ∷ k) refl refl (omega (arith, le)) worlds_belong
         (AtCode b (with_own_label l) x env (Testing x y env ∷ k) c vals (Arguments (Choose primitive.Copy d (break_with nothing)) [] NoExp vals ∷ Looping (while_of c d) vals ∷ core_machine.Labelled ∷ ck) p
         (InTesting b l held x y env k c d vals ck p q around))
@@ -90,7 +90,7 @@ module _ (program : Core) (context : Context) (nodes : ℕ) (held : ℕ) (known 
     repeats : (f : machine.Focus) (y x : Exp) (d c : core.Exp) (spent : ℕ) → Code y d → CodedBeside program.groups known context.globals b (with_own_label l) x env c vals → spent ≤ 2
         → A f spent (Eval (repeat_of d c) vals) (Looping (repeat_of d c) vals ∷ core_machine.Labelled ∷ ck) (goes store (machine.Eval y env) (Repeating y x env ∷ k))
     repeats f y x d c spent p q le =
-        steps program context nodes 0 (rank f k) (spent + owed k) (2 * 1 + held) 0 held known world _ _ (Eval d vals) (Arguments (Bind (if_true c nothing (break_with nothing))) [] NoExp vals ∷ Looping (repeat_of d c) vals ∷ core_machine.Labelled ∷ ck)
+        steps program context nodes 0 (start f k) (spent + owed k) (2 * 1 + held) 0 held known world _ _ (Eval d vals) (Arguments (Bind (if_true c nothing (break_with nothing))) [] NoExp vals ∷ Looping (repeat_of d c) vals ∷ core_machine.Labelled ∷ ck)
         store (machine.Eval y env) (Repeating y x env ∷ k) refl refl (omega (arith, le)) worlds_belong
         (AtCode b (with_own_label l) y env (Repeating y x env ∷ k) d vals (Arguments (Bind (if_true c nothing (break_with nothing))) [] NoExp vals ∷ Looping (repeat_of d c) vals ∷ core_machine.Labelled ∷ ck) p
         (InRepeating b l held y x env k d c vals ck p q around))
@@ -98,8 +98,8 @@ module _ (program : Core) (context : Context) (nodes : ℕ) (held : ℕ) (known 
     -- a loop is entered
     enters_loop : (f : machine.Focus) (c : core.Exp) (t : Act) → A f (0 + 1 + 1) (Eval c vals) (Looping c vals ∷ core_machine.Labelled ∷ ck) t → A f 0 (Eval (core.Label (Loop c)) vals) ck t
     enters_loop f c t r =
-        acts_ahead program context nodes (rank f k) held known world store k 1 0 _ ck (Eval (Loop c) vals) (core_machine.Labelled ∷ ck) t refl refl
-        (acts_ahead program context nodes (rank f k) held known world store k 1 (0 + 1) _ _ (Eval c vals) (Looping c vals ∷ core_machine.Labelled ∷ ck) t refl refl r)
+        acts_ahead program context nodes (start f k) held known world store k 1 0 _ ck (Eval (Loop c) vals) (core_machine.Labelled ∷ ck) t refl refl
+        (acts_ahead program context nodes (start f k) held known world store k 1 (0 + 1) _ _ (Eval c vals) (Looping c vals ∷ core_machine.Labelled ∷ ck) t refl refl r)
 
     -- a group is made
     module _ (places : List Place) (names : EnvironmentBelongs known context.globals places env vals) (fns : Functions) (d : Exp) (n : ℕ) (bodies : List Body) (z : core.Exp)
@@ -132,7 +132,7 @@ module _ (program : Core) (context : Context) (nodes : ℕ) (held : ℕ) (known 
       pub group_follows : A (machine.Eval (source.Group fns d) env) 0 (Eval (core.Functions n z) vals) ck (reduces context.head None store (machine.Eval (source.Group fns d) env) k)
       group_follows =
           let same : nodes_of bodies ≡ group_nodes fns = same_nodes program.groups (under (count fns) (scope places l vals)) fns bodies functions in
-          does program context nodes (rank (machine.Eval (source.Group fns d) env) k) (0 + owed k) (2 * (1 + group_nodes fns) + held) 0 held (weighing (1 + nodes_of bodies)) [] known grown world (worlds.with_group world n vals) _ ck (Eval z inner) ck store
+          does program context nodes (start (machine.Eval (source.Group fns d) env) k) (0 + owed k) (2 * (1 + group_nodes fns) + held) 0 held (weighing (1 + nodes_of bodies)) [] known grown world (worlds.with_group world n vals) _ ck (Eval z inner) ck store
           (machine.Eval d (with_group fns env)) k
           (ap (λ o. on_some (stuck program context nodes world) o (λ i. grouped program context nodes world n z vals ck i.bodies)) there) (omega (arith, same)) (omega arith) (made ∷ [], refl) refl
           (world_grows program.groups known context.globals made store world n vals worlds_belong (record { places = places; labels = l; bodies = bodies; there = there; code = functions; names = names_grown }))
@@ -170,36 +170,36 @@ module _ (program : Core) (context : Context) (nodes : ℕ) (held : ℕ) (known 
 
   -- the action that is due
   acting : (a : Action) (vs : List Value) (k : Stack) (cf : Focus) (ck : List Frame) → Acting program context nodes world known held a vs k cf ck → Suits known (Ready a vs) k
-      → Acts program context nodes (rank (Ready a vs) k) held known world store k 0 cf ck (reduces context.head None store (Ready a vs) k)
+      → Acts program context nodes (start (Ready a vs) k) held known world store k 0 cf ck (reduces context.head None store (Ready a vs) k)
   acting a vs k cf ck r suits =
-      acts_behind program context nodes (rank (Ready a vs) k) held known world store k r.weight 0 cf ck r.f' r.ck' _ r.path
-      (act_follows program context nodes (rank (Ready a vs) k) held known world store k worlds_belong (0 + r.weight) r.f' r.ck' r.b r.l r.less r.others r.around r.vals (let z : 1 ≤ further (Ready a vs) = ready a vs in omega (arith, z)) a vs r.values r.may r.arguments r.level suits r.acts
+      acts_behind program context nodes (start (Ready a vs) k) held known world store k r.weight 0 cf ck r.f' r.ck' _ r.path
+      (act_follows program context nodes (start (Ready a vs) k) held known world store k worlds_belong (0 + r.weight) r.f' r.ck' r.b r.l r.less r.others r.around r.vals (let z : 1 ≤ further (Ready a vs) = ready a vs in omega (arith, z)) a vs r.values r.may r.arguments r.level suits (λ e. e) r.acts
       (let h : r.weight + r.less ≤ held + spare a = r.paid in omega (arith, h)))
 
   -- the value behind the body of a `for`, and that behind the last element
   turned : (b : Bool) (l : Labels) (p : Pat) (e : Exp) (env : Environment) (v : Value) (k : Stack) (c : core.Exp) (w : core_value.Value) (vals : List core_value.Value) (ck : List Frame) (f : machine.Focus) (more : Stack)
       → Passing true (Stepping p v e env ∷ k) f more → Belongs known v w → CodedPattern program.groups known context.globals b (with_own_label l) p e env c (w ∷ vals) → Around program context nodes world known b l held k ck
-      → Acts program context nodes (rank f more) held known world store more 0 (Eval (turn_with c) (w ∷ vals)) (Looping (turn_with c) (w ∷ vals) ∷ core_machine.Labelled ∷ ck) (reduces context.head None store f more)
+      → Acts program context nodes (start f more) held known world store more 0 (Eval (turn_with c) (w ∷ vals)) (Looping (turn_with c) (w ∷ vals) ∷ core_machine.Labelled ∷ ck) (reduces context.head None store f more)
   turned b l p e env v k c w vals ck f more (Written n env') value pattern around = tt
   turned b l p e env v k c w vals ck f more (Arrived (suc n)) value pattern around = tt
   turned b l p e env v k c w vals ck f more (Arrived zero) value pattern around =
-      steps program context nodes 0 (rank f more) (0 + owed more) (2 * 1 + held) 0 held known world _ _ (Eval (next_of (core.Name 0)) (w ∷ vals)) (turn_stack c w vals ck) store (machine.Give v) (Going p e env ∷ k) refl refl (omega arith) worlds_belong
+      steps program context nodes 0 (start f more) (0 + owed more) (2 * 1 + held) 0 held known world _ _ (Eval (next_of (core.Name 0)) (w ∷ vals)) (turn_stack c w vals ck) store (machine.Give v) (Going p e env ∷ k) refl refl (omega arith) worlds_belong
       (AtGoing b l p e env v k c w vals ck value pattern around)
 
   left_behind : (b : Bool) (l : Labels) (p : Pat) (e : Exp) (env : Environment) (v : Value) (k : Stack) (ck : List Frame) (f : machine.Focus) (more : Stack)
       → Passing false (Stepping p v e env ∷ k) f more → Around program context nodes world known b l held k ck
-      → Acts program context nodes (rank f more) held known world store more 0 (core_machine.Give unit) ck (reduces context.head None store f more)
+      → Acts program context nodes (start f more) held known world store more 0 (core_machine.Give unit) ck (reduces context.head None store f more)
   left_behind b l p e env v k ck f more (Written n env') around = tt
   left_behind b l p e env v k ck f more (Arrived (suc n)) around = tt
   left_behind b l p e env v k ck f more (Arrived zero) around =
-      waits program context nodes (rank f more) (0 + owed more) (2 * 1 + held) 0 held known world (core_machine.Give unit) ck store (machine.Give machine_value.unit) k (omega arith) (omega arith) worlds_belong
+      waits program context nodes (start f more) (0 + owed more) (2 * 1 + held) 0 held known world (core_machine.Give unit) ck store (machine.Give machine_value.unit) k (omega arith) (omega arith) worlds_belong
       (AtValue b l machine_value.unit unit k ck (refl, tt) around)
 
   -- a built-in function that is called at once: what it holds is put together, it is entered, and left
   member_made : (m : Member) (vs : List Value) (args : Exps) (env : Environment) (k : Stack) (cf : Focus) (ck : List Frame) → Calling program context nodes world known held m vs args env k cf ck
-      → Acts program context nodes (rank (Ready (action.BuiltIn m) vs) (Operands action.Call [] args env ∷ k)) held known world store (Operands action.Call [] args env ∷ k) 0 cf ck (reduces context.head None store (Ready (action.BuiltIn m) vs) (Operands action.Call [] args env ∷ k))
+      → Acts program context nodes (start (Ready (action.BuiltIn m) vs) (Operands action.Call [] args env ∷ k)) held known world store (Operands action.Call [] args env ∷ k) 0 cf ck (reduces context.head None store (Ready (action.BuiltIn m) vs) (Operands action.Call [] args env ∷ k))
   member_made m vs args env k cf ck r =
-      waits program context nodes (rank (Ready (action.BuiltIn m) vs) (Operands action.Call [] args env ∷ k)) (0 + owed (Operands action.Call [] args env ∷ k)) (2 * (2 + length (machine_value.shapes_list vs)) + held) 0 held known world cf ck store
+      waits program context nodes (start (Ready (action.BuiltIn m) vs) (Operands action.Call [] args env ∷ k)) (0 + owed (Operands action.Call [] args env ∷ k)) (2 * (2 + length (machine_value.shapes_list vs)) + held) 0 held known world cf ck store
       (machine.Give (BuiltIn m (gathered vs))) (Operands action.Call [] args env ∷ k) (omega arith) (omega arith) worlds_belong
       (AtMade m (gathered vs) args env k cf ck (record {
         b = r.b;
@@ -218,31 +218,31 @@ module _ (program : Core) (context : Context) (nodes : ℕ) (held : ℕ) (known 
       }))
 
   member_applied : (m : Member) (a : Action) (holds : Values) (vs : List Value) (k : Stack) (cf : Focus) (ck : List Frame) → row_of m ≡ Some a → Applied program context nodes world known held a (listed holds ++ vs) k cf ck
-      → Acts program context nodes (rank (Ready action.Call (BuiltIn m holds ∷ vs)) k) held known world store k 0 cf ck (reduces context.head None store (Ready action.Call (BuiltIn m holds ∷ vs)) k)
+      → Acts program context nodes (start (Ready action.Call (BuiltIn m holds ∷ vs)) k) held known world store k 0 cf ck (reduces context.head None store (Ready action.Call (BuiltIn m holds ∷ vs)) k)
   member_applied m a holds vs k cf ck row r =
-      member_acts store (λ t. Acts program context nodes (rank (Ready action.Call (BuiltIn m holds ∷ vs)) k) held known world store k 0 cf ck (on_stack store t k)) m a (listed holds) vs row tt
-      (waits program context nodes (rank (Ready action.Call (BuiltIn m holds ∷ vs)) k) (0 + owed k) (2 * 1 + held) 0 held known world cf ck store (Ready a (listed holds ++ vs)) (Returning 0 ∷ k) (omega arith)
+      member_acts store (λ t. Acts program context nodes (start (Ready action.Call (BuiltIn m holds ∷ vs)) k) held known world store k 0 cf ck (on_stack store t k)) m a (listed holds) vs row tt
+      (waits program context nodes (start (Ready action.Call (BuiltIn m holds ∷ vs)) k) (0 + owed k) (2 * 1 + held) 0 held known world cf ck store (Ready a (listed holds ++ vs)) (Returning 0 ∷ k) (omega arith)
       (let z : further (Ready a (listed holds ++ vs)) ≡ 1 = further_of_row m a (listed holds ++ vs) row in omega (arith, z)) worlds_belong
       (AtInner m a (listed holds ++ vs) k cf ck row r))
 
   member_inner : (m : Member) (a : Action) (vs : List Value) (k : Stack) (cf : Focus) (ck : List Frame) → row_of m ≡ Some a → Applied program context nodes world known held a vs k cf ck → Suits known (Ready a vs) (Returning 0 ∷ k)
-      → Acts program context nodes (rank (Ready a vs) (Returning 0 ∷ k)) held known world store (Returning 0 ∷ k) 0 cf ck (reduces context.head None store (Ready a vs) (Returning 0 ∷ k))
+      → Acts program context nodes (start (Ready a vs) (Returning 0 ∷ k)) held known world store (Returning 0 ∷ k) 0 cf ck (reduces context.head None store (Ready a vs) (Returning 0 ∷ k))
   member_inner m a vs k cf ck row r suits =
-      inner_follows program context nodes (rank (Ready a vs) (Returning 0 ∷ k)) held known world store (Returning 0 ∷ k) worlds_belong 0 cf ck held r.others
+      inner_follows program context nodes (start (Ready a vs) (Returning 0 ∷ k)) held known world store (Returning 0 ∷ k) worlds_belong 0 cf ck held r.others
       (λ world' v w x. AtBack r.b r.l v w k r.others x r.around) r.vals (omega arith) r.l m a vs r.values row r.belongs suits r.acts
 
   member_back : (b : Bool) (l : Labels) (v : Value) (w : core_value.Value) (k : Stack) (ck : List Frame) → Belongs known v w → Around program context nodes world known b l held k ck
-      → Acts program context nodes (rank (machine.Give v) (Returning 0 ∷ k)) held known world store (Returning 0 ∷ k) 0 (core_machine.Give w) ck (reduces context.head None store (machine.Give v) (Returning 0 ∷ k))
+      → Acts program context nodes (start (machine.Give v) (Returning 0 ∷ k)) held known world store (Returning 0 ∷ k) 0 (core_machine.Give w) ck (reduces context.head None store (machine.Give v) (Returning 0 ∷ k))
   member_back b l v w k ck value around =
-      waits program context nodes (rank (machine.Give v) (Returning 0 ∷ k)) (0 + owed (Returning 0 ∷ k)) (2 * 1 + held) 0 held known world (core_machine.Give w) ck store (machine.Give v) k (omega arith) (omega arith) worlds_belong
+      waits program context nodes (start (machine.Give v) (Returning 0 ∷ k)) (0 + owed (Returning 0 ∷ k)) (2 * 1 + held) 0 held known world (core_machine.Give w) ck store (machine.Give v) k (omega arith) (omega arith) worlds_belong
       (AtValue b l v w k ck value around)
 
   -- a built-in function is made
   function_made : (m : Member) (vs : List Value) (k : Stack) (cf : Focus) (ck : List Frame) → Holding program context nodes world known held m vs k cf ck
-      → Acts program context nodes (rank (Ready (action.BuiltIn m) vs) k) held known world store k 0 cf ck (reduces context.head None store (Ready (action.BuiltIn m) vs) k)
+      → Acts program context nodes (start (Ready (action.BuiltIn m) vs) k) held known world store k 0 cf ck (reduces context.head None store (Ready (action.BuiltIn m) vs) k)
   function_made m vs k cf ck r =
-      acts_behind program context nodes (rank (Ready (action.BuiltIn m) vs) k) held known world store k r.weight 0 cf ck (Eval (core.Functions number (core.Name 0)) r.vals) r.others (reduces context.head None store (Ready (action.BuiltIn m) vs) k) r.path
-      (does_then program context nodes 0 (rank (Ready (action.BuiltIn m) vs) k) (0 + r.weight + owed k) (2 * (2 + length (machine_value.shapes_list vs)) + held) 0 held (weighing (1 + (0 + 0))) [] known (known ++ OfMember m (gathered vs) ∷ []) world (worlds.with_group world number r.vals)
+      acts_behind program context nodes (start (Ready (action.BuiltIn m) vs) k) held known world store k r.weight 0 cf ck (Eval (core.Functions number (core.Name 0)) r.vals) r.others (reduces context.head None store (Ready (action.BuiltIn m) vs) k) r.path
+      (does_then program context nodes 0 (start (Ready (action.BuiltIn m) vs) k) (0 + r.weight + owed k) (2 * (2 + length (machine_value.shapes_list vs)) + held) 0 held (weighing (1 + (0 + 0))) [] known (known ++ OfMember m (gathered vs) ∷ []) world (worlds.with_group world number r.vals)
       (Eval (core.Functions number (core.Name 0)) r.vals) r.others (Eval (core.Name 0) (function ∷ r.vals)) r.others (core_machine.Give function) r.others store (machine.Give (BuiltIn m (gathered vs))) k
       (ap (λ o. on_some (stuck program context nodes world) o (λ i. grouped program context nodes world number (core.Name 0) r.vals r.others i.bodies)) (own_there program.groups (form_of m) (length r.vals) r.levels r.n r.there))
       (step program context nodes (worlds.with_group world number r.vals) 0 0 (Eval (core.Name 0) (function ∷ r.vals)) r.others (core_machine.Give function) r.others refl (core_machine.Give function) r.others refl (There 0 (core_machine.Give function) r.others))
@@ -262,7 +262,7 @@ module _ (program : Core) (context : Context) (nodes : ℕ) (held : ℕ) (known 
       here = subst (λ i. slice_get (known ++ OfMember m (gathered vs) ∷ []) i ≡ Some (OfMember m (gathered vs))) (sym worlds_belong.groups.as_many) (last_stands known (OfMember m (gathered vs)))
 
   pub reduces_follow : (f : machine.Focus) (k : Stack) (cf : Focus) (ck : List Frame) → StateBelongs program context nodes world known held f k cf ck → Suits known f k
-      → Acts program context nodes (rank f k) held known world store k 0 cf ck (reduces context.head None store f k)
+      → Acts program context nodes (start f k) held known world store k 0 cf ck (reduces context.head None store f k)
   reduces_follow f k cf ck (AtCode b l e env j c vals cj code around) suits =
       (eval_follows b l j cj around env vals e c code)
   reduces_follow f k cf ck (AtWhile b l x y env j c d vals cj p q r) suits =
@@ -285,9 +285,9 @@ module _ (program : Core) (context : Context) (nodes : ℕ) (held : ℕ) (known 
   reduces_follow f k cf ck (AtInner m a vs j g cj row r) suits = member_inner m a vs j g cj row r suits
   reduces_follow f k cf ck (AtBack b l v w j cj value around) suits = member_back b l v w j cj value around
   reduces_follow f k cf ck (AtFunction m vs j g cj r) suits = function_made m vs j g cj r
-  reduces_follow f k cf ck (Later g j g2 more cg cj moves none falls owes deep state) suits = subst (λ a. Acts program context nodes (rank g j) held known world store j 0 cg cj a) (sym (none store)) tt
+  reduces_follow f k cf ck (Later g j g2 more cg cj moves none falls owes deep state) suits = subst (λ a. Acts program context nodes (start g j) held known world store j 0 cg cj a) (sym (none store)) tt
   reduces_follow f k cf ck (LaterBy g j n g2 more cg cj moves goes falls owes deep state) suits =
-      subst (λ a. Acts program context nodes (rank g j) held known world store j 0 cg cj a) (sym (goes store)) (waits program context nodes (rank g j) (0 + owed j) (2 * n + held) 0 held known world cg cj store g2 more (omega (arith, owes)) falls worlds_belong state)
+      subst (λ a. Acts program context nodes (start g j) held known world store j 0 cg cj a) (sym (goes store)) (waits program context nodes (start g j) (0 + owed j) (2 * n + held) 0 held known world cg cj store g2 more (omega (arith, owes)) falls worlds_belong state)
   reduces_follow f k cf ck (AtRaising b l less w i c place cell j others g cj value eq depth fits around) suits =
       raises program context nodes held known world store worlds_belong b l less c place cell j others g cj value depth around w i eq fits
   reduces_follow f k cf ck (AtWriting b l less w c place v cell u j others g cj value new eq depth fits around) suits =

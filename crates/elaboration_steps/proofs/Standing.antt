@@ -23,13 +23,14 @@ use Rattle.mo_machine.specs.Moves.{Moved, Reduces, move}
 use Rattle.mo_machine.specs.Reductions.{reduces}
 use Rattle.elaboration.proofs.Coming.{assoc}
 use Rattle.elaboration_values.specs.Belonging.{Known, Names, EachBelongs}
-use Rattle.elaboration_steps.specs.Stacks.{Labels, no_labels, rank, owed, Making, making_array, cells_at, HeldEach, WorldBelongs, StateBelongs, AtValue, Around, InFunction, FillingBelongs, Soon, AtNew, AtCells, AtRead, AtHeld, Standing, Here, Filling}
-use Rattle.elaboration_steps.specs.Follows.{MoveFollows, MovesFollow, Acts, ReductionsFollow}
+use Rattle.elaboration_steps.specs.Stacks.{Labels, no_labels, owed, Making, making_array, cells_at, HeldEach, WorldBelongs, StateBelongs, AtValue, Around, InFunction, FillingBelongs, Soon, AtNew, AtCells, AtRead, AtHeld, GatheringBelongs, Coming, AtNext, AtAll, Standing, Here, Filling, Gathered}
+use Rattle.elaboration_steps.specs.Follows.{start, MoveFollows, MovesFollow, Acts, ReductionsFollow}
 use Rattle.elaboration_steps.proofs.Filling.{Next, behind_value, deep, Fills, soon_filled, next_cell, next_held}
+use Rattle.elaboration_steps.proofs.GatheringCalls.{gathers_move, gathers_reduce}
 use Rattle.elaboration_steps.proofs.Moving.{moves_follow}
 use Rattle.elaboration_steps.proofs.Paths.{nothing_more, waits_in, does}
 use Rattle.elaboration_steps.proofs.Reducing.{reduces_follow}
-use Rattle.elaboration_steps.proofs.Values.{value_belongs, as_many, each_append, same_cell, Both, get_both}
+use Rattle.elaboration_steps.proofs.Values.{value_belongs, as_many, each_append, all_alike, many_shapes, same_cell, Both, get_both}
 
 -- ---- lists
 
@@ -45,10 +46,6 @@ many_cells : (n : ℕ) (fresh : Store) → length (shapes_list (cells_at n fresh
 many_cells n [] = refl
 many_cells n (v ∷ fresh) = ap (λ m. suc m) (many_cells (suc n) fresh)
 
-many_shapes : (vs : List Value) → length (shapes_list vs) ≡ length vs
-many_shapes [] = refl
-many_shapes (v ∷ vs) = ap (λ m. suc m) (many_shapes vs)
-
 held_more : (store : primitives.Store) (cs ws : List core_value.Value) (c w : core_value.Value) → HeldEach store cs ws → primitives.held store (core_value.cell_of c) ≡ Some w → HeldEach store (cs ++ c ∷ []) (ws ++ w ∷ [])
 held_more store [] [] c w h e = (e, tt)
 held_more store [] (x ∷ ws) c w h e = absurd h
@@ -62,12 +59,6 @@ module _ (known : List Known) where
   cells_alike n m e (v ∷ fresh) [] a = absurd a
   cells_alike n m e (v ∷ fresh) (u ∷ us) a = ((ap (λ n. Cell n) e, tt), cells_alike (suc n) (suc m) (ap (λ n. suc n) e) fresh us (a.1))
 
-  all_alike : (vs : List Value) (us : List core_value.Value) → EachBelongs known vs us → AlikeAll (Names known) (shapes (shapes_list vs)) (shapes us)
-  all_alike [] [] a = tt
-  all_alike [] (u ∷ us) a = absurd a
-  all_alike (v ∷ vs) [] a = absurd a
-  all_alike (v ∷ vs) (u ∷ us) a = (a.0, all_alike vs us (a.1))
-
   both_each : (vs xs : List Value) (ws us : List core_value.Value) → EachBelongs known vs ws → EachBelongs known xs us → EachBelongs known (vs ++ xs) (ws ++ us)
   both_each [] xs [] us a b = b
   both_each [] xs (w ∷ ws) us a b = absurd a
@@ -78,7 +69,7 @@ module _ (known : List Known) where
 
 module _ (program : Core) (context : Context) (nodes : ℕ) (held' : ℕ) (known : List Known) (world : World) (front : Store) (worlds : WorldBelongs program.groups known context.globals front world) where
   abbrev A : (fresh : Store) → machine.Focus → Stack → Focus → List Frame → Act → Type 0
-  A fresh f k = Acts program context nodes (rank f k) held' known world (front ++ fresh) k 0
+  A fresh f k = Acts program context nodes (start f k) held' known world (front ++ fresh) k 0
 
   module _ (b : Bool) (l : Labels) (k : Stack) (others : List Frame) (f : Focus) (ck : List Frame) (depth : depth_of ck ≡ 16 + depth_of others) (around : Around program context nodes world known b l held' k others) where
     abbrev inside : List Frame
@@ -88,7 +79,7 @@ module _ (program : Core) (context : Context) (nodes : ℕ) (held' : ℕ) (known
         → focused program context nodes world f ck ≡ operated program context nodes world inside (primitives.celled context.head world.store us)
         → A fresh (Ready action.New (v ∷ [])) (Operands making_array (cells_at (length front) fresh) es e ∷ Returning 0 ∷ k) f ck (on_stack (front ++ fresh) (new_cell (front ++ fresh) v) (Operands making_array (cells_at (length front) fresh) es e ∷ Returning 0 ∷ k))
     new_follows fresh e es v vs us m values eq =
-        waits_in program context nodes (rank (Ready action.New (v ∷ [])) stack) (0 + owed stack) (2 * 1 + held') 0 held' known world f ck ((front ++ fresh) ++ v ∷ []) (machine.Give cell) stack (omega arith) (omega arith)
+        waits_in program context nodes (start (Ready action.New (v ∷ [])) stack) (0 + owed stack) (2 * 1 + held') 0 held' known world f ck ((front ++ fresh) ++ v ∷ []) (machine.Give cell) stack (omega arith) (omega arith)
         (subst (λ s. Standing program context nodes world known held' s (machine.Give cell) stack f ck) (sym (assoc front fresh (v ∷ [])))
         (Filling front more (machine.Give cell) stack f ck worlds
         (behind_value action.New e k (Fills program context nodes world known held' b l k others around e f ck depth front more) context (16 + nodes + depth_of ck)
@@ -111,7 +102,7 @@ module _ (program : Core) (context : Context) (nodes : ℕ) (held' : ℕ) (known
     cells_follow fresh us values eq =
         let n : length (shapes_list cells) ≡ length fresh = many_cells (length front) fresh in
         let m : length fresh ≡ length us = as_many known fresh us values in
-        does program context nodes (rank (Ready making_array cells) (Returning 0 ∷ k)) (0 + owed (Returning 0 ∷ k)) (2 * (2 + length (shapes_list cells)) + held') 0 held' (weighing (2 + 2 * length us)) [] known known world (with_store world (world.store ++ us)) f ck
+        does program context nodes (start (Ready making_array cells) (Returning 0 ∷ k)) (0 + owed (Returning 0 ∷ k)) (2 * (2 + length (shapes_list cells)) + held') 0 held' (weighing (2 + 2 * length us)) [] known known world (with_store world (world.store ++ us)) f ck
         (Give made) inside (front ++ fresh) (machine.Give (value_of (shape.Made Array (shapes (shapes_list cells))))) (Returning 0 ∷ k) eq (omega (arith, n, m)) (omega arith) ([], nothing_more known) refl
         (record { cells = both_each known front fresh world.store us worlds.cells values; groups = worlds.groups })
         (AtValue false no_labels (value_of (shape.Made Array (shapes (shapes_list cells)))) made (Returning 0 ∷ k) inside
@@ -143,7 +134,7 @@ module _ (program : Core) (context : Context) (nodes : ℕ) (held' : ℕ) (known
         by None o' is r = tt
         by (Some v) None is r = absurd r
         by (Some v) (Some w) is r =
-            waits_in program context nodes (rank (Ready action.Read (c ∷ [])) stack) (0 + owed stack) (2 * 1 + held') 0 held' known world f ck (front ++ []) (machine.Give v) stack (omega arith) (omega arith)
+            waits_in program context nodes (start (Ready action.Read (c ∷ [])) stack) (0 + owed stack) (2 * 1 + held') 0 held' known world f ck (front ++ []) (machine.Give v) stack (omega arith) (omega arith)
             (Filling front [] (machine.Give v) stack f ck worlds
             (behind_value action.Read e k (Fills program context nodes world known held' b l k others around e f ck depth front []) context (16 + nodes + depth_of ck)
             (soon_filled program context nodes world known held' b l k others around e f ck depth front []) (deep program context nodes world known held' b l k others around e f ck depth) es cs m done v
@@ -155,16 +146,16 @@ module _ (program : Core) (context : Context) (nodes : ℕ) (held' : ℕ) (known
     held_follow done us values eq =
         let n : length (shapes_list done) ≡ length done = many_shapes done in
         let m : length done ≡ length us = as_many known done us values in
-        does program context nodes (rank (Ready making_array done) (Returning 0 ∷ k)) (0 + owed (Returning 0 ∷ k)) (2 * (2 + length (shapes_list done)) + held') 0 held' (weighing (2 + 2 * length us)) [] known known world world f ck
+        does program context nodes (start (Ready making_array done) (Returning 0 ∷ k)) (0 + owed (Returning 0 ∷ k)) (2 * (2 + length (shapes_list done)) + held') 0 held' (weighing (2 + 2 * length us)) [] known known world world f ck
         (Give (core_value.array us)) inside (front ++ []) (machine.Give (value_of (shape.Made Array (shapes (shapes_list done))))) (Returning 0 ∷ k) eq (omega (arith, n, m)) (omega arith) ([], nothing_more known) refl
         (subst (λ s. WorldBelongs program.groups known context.globals s world) (nothing_more front) worlds)
         (AtValue false no_labels (value_of (shape.Made Array (shapes (shapes_list done)))) (core_value.array us) (Returning 0 ∷ k) inside
         (value_belongs known (shape.Made Array (shapes (shapes_list done))) (core_value.array us) (refl, all_alike known done us values)) (InFunction 0 b l held' k [] others tt around))
 
-  fills_move : (fresh : Store) (f : machine.Focus) (k : Stack) (cf : Focus) (ck : List Frame) → FillingBelongs program context nodes world known held' front fresh f k cf ck → MoveFollows program context nodes (rank f k) held' known world (front ++ fresh) k cf ck (move f k)
+  fills_move : (fresh : Store) (f : machine.Focus) (k : Stack) (cf : Focus) (ck : List Frame) → FillingBelongs program context nodes world known held' front fresh f k cf ck → MoveFollows program context nodes (start f k) held' known world (front ++ fresh) k cf ck (move f k)
   fills_move fresh f k cf ck (Soon new g j g2 more cg cj moves none falls owes low filling) =
-      subst (λ m. MoveFollows program context nodes (rank g j) held' known world (front ++ fresh) j cg cj m) (sym moves)
-      (waits_in program context nodes (rank g j) (owed j) held' 0 held' known world cg cj (front ++ fresh) g2 more (omega (arith, owes)) falls (Filling front fresh g2 more cg cj worlds filling))
+      subst (λ m. MoveFollows program context nodes (start g j) held' known world (front ++ fresh) j cg cj m) (sym moves)
+      (waits_in program context nodes (start g j) (owed j) held' 0 held' known world cg cj (front ++ fresh) g2 more (omega (arith, owes)) falls (Filling front fresh g2 more cg cj worlds filling))
   fills_move fresh f k cf ck (AtNew new b l e es v vs us j others g cj making values eq depth around) = tt
   fills_move fresh f k cf ck (AtCells new b l us j others g cj values eq depth around) = tt
   fills_move fresh f k cf ck (AtRead b l e es c cs done before rest ws j others g cj making cells values each eq depth around) = tt
@@ -182,10 +173,12 @@ module _ (program : Core) (context : Context) (nodes : ℕ) (held' : ℕ) (known
 pub stands_move : (program : Core) (context : Context) (nodes : ℕ) → MovesFollow program context nodes
 stands_move program context nodes held' known world store f k cf ck (Here st g j cg cj worlds state) = moves_follow program context nodes held' known world store worlds f k cf ck state
 stands_move program context nodes held' known world store f k cf ck (Filling front fresh g j cg cj worlds filling) = fills_move program context nodes held' known world front worlds fresh f k cf ck filling
+stands_move program context nodes held' known world store f k cf ck (Gathered st g j cg cj worlds gathering) = gathers_move program context nodes held' known world store worlds f k cf ck gathering
 
 pub stands_reduce : (program : Core) (context : Context) (nodes : ℕ) → ReductionsFollow program context nodes
 stands_reduce program context nodes held' known world store f k cf ck (Here st g j cg cj worlds state) suits = reduces_follow program context nodes held' known world store worlds f k cf ck state suits
 stands_reduce program context nodes held' known world store f k cf ck (Filling front fresh g j cg cj worlds filling) suits = fills_reduce program context nodes held' known world front worlds fresh f k cf ck filling
+stands_reduce program context nodes held' known world store f k cf ck (Gathered st g j cg cj worlds gathering) suits = gathers_reduce program context nodes held' known world store worlds f k cf ck gathering suits
 
 -- calls of other actors and awaits stand in no body of a built-in function
 abbrev pub IsOutside : machine.Focus → Type 0
@@ -206,7 +199,13 @@ module _ (program : Core) (context : Context) (nodes : ℕ) (world : World) (kno
   no_filling front fresh f k cf ck (AtRead b l e es c cs done before rest ws j others g cj making cells values each eq depth around) h = h
   no_filling front fresh f k cf ck (AtHeld b l done us j others g cj values eq depth around) h = h
 
+  no_gathering : (f : machine.Focus) (k : Stack) (cf : Focus) (ck : List Frame) → GatheringBelongs program context nodes world known held' f k cf ck → IsOutside f → ⊥
+  no_gathering f k cf ck (Coming g j g2 more cg cj moves none falls owes gathering) h = let z : Reduces ≡ Moved g2 more = sym (reduces_outside g j h) ∙ moves in absurd cc
+  no_gathering f k cf ck (AtNext b l g i done before next left j others cg cj function values eq around) h = h
+  no_gathering f k cf ck (AtAll b l i done before next j others cg cj values eq around) h = h
+
   pub here_alone : (store : Store) (f : machine.Focus) (k : Stack) (cf : Focus) (ck : List Frame) → Standing program context nodes world known held' store f k cf ck → IsOutside f
       → WorldBelongs program.groups known context.globals store world × StateBelongs program context nodes world known held' f k cf ck
   here_alone store f k cf ck (Here st g j cg cj worlds state) h = (worlds, state)
   here_alone store f k cf ck (Filling front fresh g j cg cj worlds filling) h = absurd (no_filling front fresh f k cf ck filling h)
+  here_alone store f k cf ck (Gathered st g j cg cj worlds gathering) h = absurd (no_gathering f k cf ck gathering h)

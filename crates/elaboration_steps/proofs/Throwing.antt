@@ -17,7 +17,7 @@ use Rattle.mo_machine.specs.Jumps.{throw}
 use Rattle.elaboration.specs.Meeting.{Joins, There}
 use Rattle.elaboration_values.specs.Belonging.{Known, Belongs}
 use Rattle.elaboration_steps.specs.Stacks.{Passed, Labels, turn_with, WorldBelongs, AtAction, Around, Bottom, InOperands, InMaking, InCalling, InHolding, InChoosing, InLet, InSwitch, InLabel, InTesting, InTurning, InRepeating, InRetesting, InTry, InUpdating, InGoing, InTurn, InBody, InBranch, InCase}
-use Rattle.elaboration_steps.specs.Follows.{owed, HandlerMeets, Acts}
+use Rattle.elaboration_steps.specs.Follows.{Start, owed, HandlerMeets, Acts}
 use Rattle.elaboration_steps.proofs.Levels.{joins_level, skips_level}
 use Rattle.elaboration_steps.proofs.Matching.{pattern_follows}
 use Rattle.elaboration_steps.proofs.Paths.{waits, stops}
@@ -41,7 +41,7 @@ module _ (program : Core) (context : Context) (nodes : ℕ) (world : World) (w :
   past_skips (core_machine.Trying b e ∷ s) k h = absurd h
   past_skips (Caller n g ∷ s) k h = absurd h
 
-module _ (program : Core) (context : Context) (nodes : ℕ) (before held : ℕ) (known : List Known) (world : World) (store : Store) (k0 : Stack) (worlds : WorldBelongs program.groups known context.globals store world) (v : Value) (w : core_value.Value) (value : Belongs known v w) (spent : ℕ) (cf : Focus) (ck0 : List Frame) where
+module _ (program : Core) (context : Context) (nodes : ℕ) (before : Start) (held : ℕ) (known : List Known) (world : World) (store : Store) (k0 : Stack) (worlds : WorldBelongs program.groups known context.globals store world) (v : Value) (w : core_value.Value) (value : Belongs known v w) (spent : ℕ) (cf : Focus) (ck0 : List Frame) where
   abbrev A : Act → Type 0
   A = Acts program context nodes before held known world store k0 spent cf ck0
 
@@ -49,11 +49,11 @@ module _ (program : Core) (context : Context) (nodes : ℕ) (before held : ℕ) 
   Out ck = focused program context nodes world cf ck0 ≡ thrown program context nodes world w ck
 
   abbrev Low : Stack → Type 0
-  Low k = 4 * left_on k + length k + 1 ≤ before
+  Low k = 4 * left_on k + length k + 1 ≤ before.most
 
   pub throws : (l : Labels) (less : ℕ) (k : Stack) (ck : List Frame) → Around program context nodes world known true l less k ck → HandlerMeets k w → Out ck → spent + less ≤ held → owed k0 ≡ owed k → Low k → depth_of ck0 ≡ depth_of ck → A (throw store (weighing 1) v k)
   throws l less k ck (Bottom c h js i) meets eq le q low deep =
-      (w, value, stops program context nodes spent (2 * 1 + held) 0 (weighing 1) world cf ck0 (Rejects w) (eq ∙ past_joins program context nodes world w js [] i) (omega (arith, le)) (omega arith))
+      (w, value, stops program context nodes before spent (2 * 1 + held) 0 (weighing 1) world cf ck0 (Rejects w) (eq ∙ past_joins program context nodes world w js [] i) (omega (arith, le)) (omega arith), worlds)
   throws l less k ck (InLabel c m h j cj r) meets eq le q low deep =
       waits program context nodes before (spent + owed k0) (2 * 1 + held) 0 less known world cf ck0 store (Ready action.Throw (v ∷ [])) j (omega (arith, le, q)) (omega (arith, low)) worlds
       (AtAction action.Throw (v ∷ []) j cf ck0 (record {
@@ -75,7 +75,7 @@ module _ (program : Core) (context : Context) (nodes : ℕ) (before held : ℕ) 
         around = r;
       }))
   throws l less k ck (InTry m h p e env j c vals cj d r) meets eq le q low deep =
-      pattern_follows program context nodes before held known world store k0 worlds p e env c vals true m h j cj (Join ∷ []) v w 1 (1 + trying p v) spent cf ck0 d value meets tt r eq (omega (arith, le, q)) (omega (arith, le))
+      pattern_follows program context nodes before held known world store k0 worlds p e env c vals true m h j cj (Join ∷ []) v w 1 (1 + trying p v) spent cf ck0 d value meets tt r eq (omega (arith, le, q)) (omega (arith, le)) (omega (arith, deep))
   throws l less k ck (InOperands x m h a done rest env j bs later vals cj g e d r) meets eq le q low deep = throws m h j cj r meets eq le q (omega (arith, low)) deep
   throws l less k ck (InMaking x m h i a done rest args env j bs later arguments vals cj row e d f r) meets eq le q low deep = throws m h j cj r meets eq le q (omega (arith, low)) deep
   throws l less k ck (InCalling x m h i a holds done rest env j bs later vals cj row e d r) meets eq le q low deep = throws m h j cj r meets eq le q (omega (arith, low)) deep

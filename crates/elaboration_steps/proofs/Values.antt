@@ -3,7 +3,7 @@ use Rattle.std.proofs.Common.{◌≡◌, ℕ, zero, suc, true, false, List, [], 
 use Rattle.std.specs.Prelude.{slice_set}
 use Rattle.mo_types.specs.declared.datum.Datum.TheVariants as part
 use Rattle.mo_values.specs.Alike.{Alike, AlikeAll, AlikeEach}
-use Rattle.mo_values.specs.Shapes.{Head, Leaf, Present, Cell, Shape, Shapes, NoShape, AShape}
+use Rattle.mo_values.specs.Shapes.{Head, Leaf, Present, Cell, Shape, Shapes, NoShape, AShape, shapes}
 use Rattle.mo_values.specs.Shapes as shape
 use Rattle.mo_num.specs.declared.kind.Kind.TheVariants as kind
 use Rattle.mo_types.specs.declared.node.Node.TheVariants as node
@@ -35,6 +35,10 @@ pub list_values : (ss : List (Shape Code)) → shapes_list (values_list ss) ≡ 
 list_values [] = refl
 list_values (s ∷ ss) = ap₂ (λ x xs. x ∷ xs) (shape_value s) (list_values ss)
 
+pub many_shapes : (vs : List Value) → length (shapes_list vs) ≡ length vs
+many_shapes [] = refl
+many_shapes (v ∷ vs) = ap (λ m. suc m) (many_shapes vs)
+
 module _ (known : List Known) where
   pub value_belongs : (s : Shape Code) (w : core.Value) → Alike (Names known) s w → Belongs known (value_of s) w
   value_belongs s w a = subst (λ x. Alike (Names known) x w) (sym (shape_value s)) a
@@ -53,6 +57,12 @@ module _ (known : List Known) where
   as_many [] (x ∷ ws) a = absurd a
   as_many (u ∷ vs) [] a = absurd a
   as_many (u ∷ vs) (x ∷ ws) a = ap (λ n. suc n) (as_many vs ws (a.1))
+
+  pub all_alike : (vs : List Value) (us : List core.Value) → EachBelongs known vs us → AlikeAll (Names known) (shapes (shapes_list vs)) (shapes us)
+  all_alike [] [] a = tt
+  all_alike [] (u ∷ us) a = absurd a
+  all_alike (v ∷ vs) [] a = absurd a
+  all_alike (v ∷ vs) (u ∷ us) a = (a.0, all_alike vs us (a.1))
 
   -- what stands at a place
   abbrev pub Both : Option Value → Option core.Value → Type 0

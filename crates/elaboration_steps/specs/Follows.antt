@@ -1,6 +1,6 @@
 -- What it is that Core's machine follows the machine of typed programs: for each of its moves and reductions steps of Core, of which one
 -- at most has an effect, at no more than twice the weight.
-use Rattle.std.specs.Prelude.{◌≡◌, ℕ, zero, suc, ◌+◌, ◌*◌, ◌≤◌, Bool, true, false, List, [], ◌∷◌, ◌++◌, length, Some, None}
+use Rattle.std.specs.Prelude.{◌≡◌, ◌⊎◌, ℕ, zero, suc, ◌+◌, ◌*◌, ◌≤◌, Bool, true, false, List, [], ◌∷◌, ◌++◌, length, Option, Some, None}
 use Rattle.std.specs.Str.{is_utf8}
 use Rattle.mo_types.specs.declared.datum.Datum.TheVariants as part
 use Rattle.mo_values.specs.Costs.{Cost, weighing}
@@ -16,14 +16,12 @@ use Rattle.core_ir.specs.CoreMachine as core_machine
 use Rattle.core_ir.specs.CoreMachine.{Waiting, focused, at, depth_of}
 use Rattle.typed_tree.specs.declared.action.Action.{Action}
 use Rattle.typed_tree.specs.declared.action.Action.TheVariants as action
-use Rattle.typed_tree.specs.declared.action.Member.{Member}
-use Rattle.typed_tree.specs.declared.action.Member.TheVariants as member
 use Rattle.typed_tree.specs.Language.{Exp, Cases, Functions, NoCase, ACase, NoFunction, AFunction}
 use Rattle.mo_machine.specs.Values.{Value, Closure, BuiltIn, leaf, Code, shapes_list, values_list}
 use Rattle.mo_machine.specs.Acts.{Store, Act, Goes, Prints, Throws, Traps}
 use Rattle.mo_machine.specs.Frames as machine
 use Rattle.mo_machine.specs.Frames.{Switching, Stack, Ready}
-use Rattle.mo_machine.specs.Configurations.{live_on}
+use Rattle.mo_machine.specs.Configurations.{live_on, live_state}
 use Rattle.mo_machine.specs.Moves.{Move, Moved, Reduces, move}
 use Rattle.mo_machine.specs.Moves as moves
 use Rattle.mo_machine.specs.Reductions.{reduces}
@@ -39,7 +37,28 @@ use Rattle.elaboration_forms.specs.Elaborates.{Elaborates}
 use Rattle.elaboration.specs.Meeting.{Meets, MeetEach, Comes}
 use Rattle.elaboration_values.specs.Belonging.{Known, Belongs, EachBelongs, EnvironmentBelongs}
 pub use Rattle.elaboration_steps.specs.Stacks.{owed, further, rank}
-use Rattle.elaboration_steps.specs.Stacks.{Labels, alone, StackBelongs, StateBelongs, Standing}
+use Rattle.elaboration_steps.specs.Stacks.{Labels, alone, StackBelongs, WorldBelongs, StateBelongs, Standing}
+
+-- where a move or a reduction begins: its rank, and whether the parameters match of a function that is called there, if one is
+pub record Start : Type 0 where
+  pub most : ℕ
+  pub enters : Bool
+
+abbrev pub is_found : {A : Type 0} → Option A → Bool
+is_found None = false
+is_found (Some x) = true
+
+abbrev pub parameters_match : Functions → ℕ → List Value → Bool
+parameters_match NoFunction n vs = true
+parameters_match (AFunction how nodes ps body fns) zero vs = is_found (matches_all ps (shapes_list vs))
+parameters_match (AFunction how nodes ps body fns) (suc n) vs = parameters_match fns n vs
+
+abbrev pub enters_at : machine.Focus → Bool
+enters_at (Ready action.Call (Closure group which env ∷ vs)) = parameters_match group which vs
+enters_at _ = true
+
+abbrev pub start : machine.Focus → Stack → Start
+start f k = record { most = rank f k; enters = enters_at f }
 
 module _ (program : Core) (context : Context) (nodes : ℕ) where
   -- steps of Core, of at most such a weight and so many levels; whether there is one
@@ -52,8 +71,12 @@ module _ (program : Core) (context : Context) (nodes : ℕ) where
         → Comes program context nodes world m f k f1 k1 → focused program context nodes world f1 k1 ≡ Go cost out world' (at program context nodes f2 k2) → Comes program context nodes world' n f2 k2 g l
         → m + cost.weight + n ≤ weight → cost.levels ≤ levels → Leads true weight levels out world f k world' g l
 
+  -- Core is no deeper than it was, or than the source is
+  abbrev pub NoDeeper : List core_machine.Frame → List core_machine.Frame → machine.Focus → Stack → Type 0
+  NoDeeper ck ck' f k = (depth_of ck' ≤ depth_of ck) ⊎ (16 + nodes + depth_of ck' ≤ live_state f k)
+
   -- Core comes to a state that belongs to this one
-  pub record Follows (before spent total levels : ℕ) (out : List Bytes) (known : List Known) (world : World) (cf : core_machine.Focus) (ck : List core_machine.Frame) (store : Store) (f : machine.Focus) (k : Stack) : Type 0 where
+  pub record Follows (before : Start) (spent total levels : ℕ) (out : List Bytes) (known : List Known) (world : World) (cf : core_machine.Focus) (ck : List core_machine.Frame) (store : Store) (f : machine.Focus) (k : Stack) : Type 0 where
     pub moved : Bool
     pub weight : ℕ
     pub held' : ℕ
@@ -62,14 +85,15 @@ module _ (program : Core) (context : Context) (nodes : ℕ) where
     pub cf' : core_machine.Focus
     pub ck' : List core_machine.Frame
     pub path : Leads moved weight levels out world cf ck world' cf' ck'
+    pub level : NoDeeper ck ck' f k
     pub pays : spent + weight + held' ≤ total + owed k
-    pub falls : moved ≡ false → suc (rank f k) ≤ before
+    pub falls : moved ≡ false → suc (rank f k) ≤ before.most
     pub grows : (more : List Known) × (known' ≡ known ++ more)
     pub requests : world'.requests ≡ world.requests
     pub stands : Standing program context nodes world' known' held' store f k cf' ck'
 
   -- Core ends so
-  pub record Stops (spent total levels : ℕ) (world : World) (cf : core_machine.Focus) (ck : List core_machine.Frame) (end : End Waiting) : Type 0 where
+  pub record Stops (before : Start) (spent total levels : ℕ) (world : World) (cf : core_machine.Focus) (ck : List core_machine.Frame) (end : End Waiting) : Type 0 where
     pub moved : Bool
     pub weight : ℕ
     pub cost : Cost
@@ -77,29 +101,26 @@ module _ (program : Core) (context : Context) (nodes : ℕ) where
     pub ck' : List core_machine.Frame
     pub path : Leads moved weight levels [] world cf ck world cf' ck'
     pub ends : focused program context nodes world cf' ck' ≡ Ends cost [] world end
+    pub level : before.enters ≡ true → depth_of ck' ≤ depth_of ck
     pub pays : spent + weight + cost.weight ≤ total
     pub light : cost.levels ≤ levels
 
-  module _ (before held : ℕ) (known : List Known) (world : World) (store : Store) (k0 : Stack) where
+  module _ (before : Start) (held : ℕ) (known : List Known) (world : World) (store : Store) (k0 : Stack) where
     -- a move is paid from what is held
     abbrev pub MoveFollows : core_machine.Focus → List core_machine.Frame → Move → Type 0
     MoveFollows cf ck (Moved f k) = Follows before (owed k0) held 0 [] known world cf ck store f k
-    MoveFollows cf ck (moves.Ends v) = (w : core_value.Value) × Belongs known v w × (focused program context nodes world cf ck ≡ Ends (weighing 1) [] world (Replies w)) × (1 ≤ held)
+    MoveFollows cf ck (moves.Ends v) = (w : core_value.Value) × Belongs known v w × (focused program context nodes world cf ck ≡ Ends (weighing 1) [] world (Replies w)) × (1 ≤ held) × WorldBelongs program.groups known context.globals store world
     MoveFollows cf ck Reduces = Unit {0}
 
     -- Core has spent so much of what is held and twice what the source pays. Calls and waits are answered from outside.
     abbrev pub Acts : ℕ → core_machine.Focus → List core_machine.Frame → Act → Type 0
     Acts spent cf ck (Goes cost later f k) = Follows before (spent + owed k0) (2 * cost.weight + held) cost.levels [] known world cf ck later f k
     Acts spent cf ck (Prints cost text f k) = Follows before (spent + owed k0) (2 * cost.weight + held) cost.levels (text ∷ []) known world cf ck store f k
-    Acts spent cf ck (Traps cost text) = Stops spent (2 * cost.weight + held) cost.levels world cf ck (execution.Traps text)
-    Acts spent cf ck (Throws cost error) = (w : core_value.Value) × Belongs known error w × Stops spent (2 * cost.weight + held) cost.levels world cf ck (Rejects w)
+    Acts spent cf ck (Traps cost text) = Stops before spent (2 * cost.weight + held) cost.levels world cf ck (execution.Traps text)
+    Acts spent cf ck (Throws cost error) = (w : core_value.Value) × Belongs known error w × Stops before spent (2 * cost.weight + held) cost.levels world cf ck (Rejects w) × WorldBelongs program.groups known context.globals store world
     Acts spent cf ck _ = Unit {0}
 
--- ---- what is asked: `Array.tabulate` is not called yet; values stand where values of their types do
-
-abbrev pub IsFollowed : Member → Type 0
-IsFollowed member.ArrayTabulate = ⊥
-IsFollowed _ = Unit {0}
+-- ---- what is asked: values stand where values of their types do
 
 abbrev pub CasesMeet : Cases → core_value.Value → Type 0
 CasesMeet NoCase w = Unit {0}
@@ -120,7 +141,7 @@ HandlerMeets (_ ∷ k) w = HandlerMeets k w
 abbrev pub Suits : List Known → machine.Focus → Stack → Type 0
 Suits known (machine.Give v) (Switching cases env ∷ k) = (w : core_value.Value) → Belongs known v w → CasesMeet cases w
 Suits known (Ready action.Call (Closure group which env ∷ vs)) k = (ws : List core_value.Value) → EachBelongs known vs ws → ParametersMeet group which ws
-Suits known (Ready action.Call (BuiltIn m holds ∷ vs)) k = IsFollowed m × ((a : Action) → alone m ≡ Some a → length vs ≡ 1)
+Suits known (Ready action.Call (BuiltIn m holds ∷ vs)) k = (a : Action) → alone m ≡ Some a → length vs ≡ 1
 Suits known (Ready action.Throw (v ∷ [])) k = (w : core_value.Value) → Belongs known v w → HandlerMeets k w
 Suits known (Ready action.Print (v ∷ [])) k = (t : Bytes) → v ≡ leaf (part.Text t) → is_utf8 t ≡ true
 Suits known _ k = Unit {0}
@@ -132,13 +153,13 @@ module _ (program : Core) (context : Context) (nodes : ℕ) where
   MovesFollow =
       (held : ℕ) (known : List Known) (world : World) (store : Store) (f : machine.Focus) (k : Stack) (cf : core_machine.Focus) (ck : List core_machine.Frame)
       → Standing program context nodes world known held store f k cf ck
-      → MoveFollows program context nodes (rank f k) held known world store k cf ck (move f k)
+      → MoveFollows program context nodes (start f k) held known world store k cf ck (move f k)
 
   abbrev pub ReductionsFollow : Type 0
   ReductionsFollow =
       (held : ℕ) (known : List Known) (world : World) (store : Store) (f : machine.Focus) (k : Stack) (cf : core_machine.Focus) (ck : List core_machine.Frame)
       → Standing program context nodes world known held store f k cf ck → Suits known f k
-      → Acts program context nodes (rank f k) held known world store k 0 cf ck (reduces context.head None store f k)
+      → Acts program context nodes (start f k) held known world store k 0 cf ck (reduces context.head None store f k)
 
 -- A body outside all functions begins: its parameters' patterns are looked at, and then Core stands where the body does; or it traps.
 module _ (program : Core) (context : Context) (nodes : ℕ) (world : World) (known : List Known) where

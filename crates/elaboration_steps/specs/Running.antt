@@ -5,7 +5,7 @@ use Rattle.core_ir.specs.Worlds.{World, Context}
 use Rattle.core_ir.specs.Executions.{End, Over, run}
 use Rattle.core_ir.specs.Expressions.{Core}
 use Rattle.core_ir.specs.CoreMachine.{Frame, Focus, Waiting, at, depth_of, core_machine}
-use Rattle.elaboration_steps.specs.Follows.{Leads, Stops}
+use Rattle.elaboration_steps.specs.Follows.{Start, Leads, Stops}
 
 abbrev pub least : Bool → ℕ
 least true = 1
@@ -28,14 +28,12 @@ module _ (program : Core) (context : Context) (nodes : ℕ) where
     pub shown : prints' ≡ prints ++ out
 
   -- it ends so
-  pub record Finishes (weight levels : ℕ) (w d : ℕ) (prints : List Bytes) (world : World) (f : Focus) (k : List Frame) (end : End Waiting) : Type 0 where
+  pub record Finishes (weight levels : ℕ) (w d : ℕ) (prints : List Bytes) (world : World) (f : Focus) (k last : List Frame) (end : End Waiting) : Type 0 where
     pub steps : ℕ
     pub weight' : ℕ
     pub depth' : ℕ
     pub prints' : List Bytes
-    pub world' : World
-    pub last : List Frame
-    pub by : (more : ℕ) → run (core_machine program) context (steps + more) w d prints world (at program context nodes f k) ≡ Over weight' depth' prints' world' end
+    pub by : (more : ℕ) → run (core_machine program) context (steps + more) w d prints world (at program context nodes f k) ≡ Over weight' depth' prints' world end
     pub heavy : weight' ≤ w + weight
     pub within : depth' ≤ max d (max (deep k + 16 * levels) (deep last + 16 * levels))
     pub shown : prints' ≡ prints
@@ -47,5 +45,5 @@ module _ (program : Core) (context : Context) (nodes : ℕ) where
 
   abbrev pub StopsAreRuns : Type 0
   StopsAreRuns =
-      (spent total levels : ℕ) (world : World) (f : Focus) (k : List Frame) (end : End Waiting) → Stops program context nodes spent total levels world f k end
-      → (w d : ℕ) (prints : List Bytes) (weight : ℕ) → total ≤ spent + weight → Finishes weight levels w d prints world f k end
+      (before : Start) (spent total levels : ℕ) (world : World) (f : Focus) (k : List Frame) (end : End Waiting) (r : Stops program context nodes before spent total levels world f k end)
+      → (w d : ℕ) (prints : List Bytes) (weight : ℕ) → total ≤ spent + weight → Finishes weight levels w d prints world f k r.ck' end

@@ -18,11 +18,12 @@ use Rattle.core_ir.specs.declared.primitive.Primitive.TheVariants as primitive
 use Rattle.core_ir.specs.Programs.{Group}
 use Rattle.core_ir.specs.Values as core_value
 use Rattle.core_ir.specs.Worlds.{MadeGroup, World, Context}
-use Rattle.core_ir.specs.Executions.{Replies, Ends}
+use Rattle.core_ir.specs.Executions.{Replies, Ends, heavier}
+use Rattle.core_ir.specs.Gatherings.{Gathering}
 use Rattle.core_ir.specs.Expressions as core
 use Rattle.core_ir.specs.Expressions.{Loop, NoExp, AnExp, Choose, Match, Bind, Break, Body, Core}
 use Rattle.core_ir.specs.CoreMachine as core_machine
-use Rattle.core_ir.specs.CoreMachine.{Arguments, Looping, Caller, Join, Did, focused, operated, act, depth_of}
+use Rattle.core_ir.specs.CoreMachine.{Arguments, Looping, Caller, Join, Did, focused, operated, act, gather, depth_of}
 use Rattle.typed_tree.specs.declared.action.Action.{Action}
 use Rattle.typed_tree.specs.declared.action.Action.TheVariants as action
 use Rattle.typed_tree.specs.declared.action.Member.{Member}
@@ -38,6 +39,7 @@ use Rattle.mo_machine.specs.Environments.{Environment, at}
 use Rattle.mo_machine.specs.Acts.{Store, Goes, Stuck}
 use Rattle.mo_machine.specs.Configurations.{live_state}
 use Rattle.mo_machine.specs.Measure.{measure}
+use Rattle.mo_machine.specs.Members.{calls_code}
 use Rattle.mo_machine.specs.Moves.{Moved, Reduces, move}
 use Rattle.mo_machine.specs.Reductions.{reduces}
 use Rattle.mo_machine.specs.Frames as machine
@@ -146,6 +148,13 @@ cells_at n (v ∷ vs) = machine_value.Made (Cell n) NoValue ∷ cells_at (suc n)
 abbrev pub making_array : Action
 making_array = action.Operate op.MakeArray
 
+-- a function makes the elements of an array: those that there are, and so many calls more, of which the first is with this number
+abbrev pub gathering_on : Value → List Value → (next left : ℕ) → Stack → Stack
+gathering_on f done next left k = Operands making_array done (calls_code next left) (AValue f NoValue) ∷ Returning 0 ∷ k
+
+abbrev pub gathering_of : core_value.Value → List core_value.Value → (next left : ℕ) → Gathering
+gathering_of f done next left = record { function = f; next = next; remaining = left; done = done }
+
 -- these cells hold these values
 abbrev pub HeldEach : primitives.Store → List core_value.Value → List core_value.Value → Type 0
 HeldEach store [] [] = Unit {0}
@@ -238,6 +247,10 @@ module _ (table : List (Group Body)) (known : List Known) (globals : List core_v
     Bottom : (b : Bool) (held : ℕ) (joins : List core_machine.Frame) → Joins joins → StackBelongs nodes b no_labels held (Returning nodes ∷ []) (joins ++ [])
     InFunction : (n : ℕ) (b : Bool) (l : Labels) (held : ℕ) (k : Stack) (joins ck : List core_machine.Frame)
         → Joins joins → StackBelongs nodes b l held k ck → StackBelongs nodes false no_labels held (Returning n ∷ k) (joins ++ (Caller n None ∷ ck))
+    -- the function makes an element of an array
+    InGathering : (n : ℕ) (b : Bool) (l : Labels) (held : ℕ) (f : Value) (h : core_value.Value) (done : List Value) (before : List core_value.Value) (next left : ℕ) (k : Stack) (joins ck : List core_machine.Frame)
+        → Joins joins → Belongs known f h → EachBelongs known done before → StackBelongs nodes b l held k ck
+        → StackBelongs nodes false no_labels held (Returning n ∷ gathering_on f done next left k) (joins ++ (Caller n (Some (gathering_of h before next left)) ∷ Caller 0 None ∷ ck))
     InOperands : (b : Bool) (l : Labels) (held : ℕ) (a : Action) (done : List Value) (rest : Exps) (env : Environment) (k : Stack) (before : List core_value.Value) (later : core.Exps) (vals : List core_value.Value) (ck : List core_machine.Frame)
         → IsGoal b a → EachBelongs known done before → CodedAll b l rest env later vals → StackBelongs nodes b l held k ck
         → StackBelongs nodes b l held (Operands a done rest env ∷ k) (Arguments (goal_at l a) before later vals ∷ ck)
@@ -497,9 +510,23 @@ module _ (program : Core) (context : Context) (nodes : ℕ) (world : World) (kno
         → EachBelongs known done us → focused program context nodes world f ck ≡ operated program context nodes world (Caller 0 None ∷ others) (primitives.whole_array context.head world.store us) → depth_of ck ≡ 16 + depth_of others → Around b l held k others
         → FillingBelongs held front [] (Ready making_array done) (Returning 0 ∷ k) f ck
 
+  -- A function makes the elements of an array: Core stands where it gives the last one, or at the beginning, until the next is asked for.
+  pub data GatheringBelongs (held : ℕ) : machine.Focus → Stack → core_machine.Focus → List core_machine.Frame → Type 0 where
+    Coming : (f : machine.Focus) (k : Stack) (g : machine.Focus) (more : Stack) (cf : core_machine.Focus) (ck : List core_machine.Frame)
+        → move f k ≡ Moved g more → ((store : Store) → reduces context.head None store f k ≡ Stuck) → suc (rank g more) ≤ rank f k → owed k ≤ owed more
+        → GatheringBelongs held g more cf ck → GatheringBelongs held f k cf ck
+    AtNext : (b : Bool) (l : Labels) (f : Value) (h : core_value.Value) (done : List Value) (before : List core_value.Value) (next left : ℕ) (k : Stack) (others : List core_machine.Frame) (cf : core_machine.Focus) (ck : List core_machine.Frame)
+        → Belongs known f h → EachBelongs known done before → focused program context nodes world cf ck ≡ heavier 1 (gather program context nodes world h next (suc left) before (Caller 0 None ∷ others)) → Around b l held k others
+        → GatheringBelongs held (Ready action.Call (f ∷ leaf (part.Number (pos next)) ∷ [])) (gathering_on f done (suc next) left k) cf ck
+    AtAll : (b : Bool) (l : Labels) (h : core_value.Value) (done : List Value) (before : List core_value.Value) (next : ℕ) (k : Stack) (others : List core_machine.Frame) (cf : core_machine.Focus) (ck : List core_machine.Frame)
+        → EachBelongs known done before → focused program context nodes world cf ck ≡ heavier 1 (gather program context nodes world h next zero before (Caller 0 None ∷ others)) → Around b l held k others
+        → GatheringBelongs held (Ready making_array done) (Returning 0 ∷ k) cf ck
+
   -- where both machines stand
   pub data Standing (held : ℕ) : Store → machine.Focus → Stack → core_machine.Focus → List core_machine.Frame → Type 0 where
     Here : (store : Store) (f : machine.Focus) (k : Stack) (cf : core_machine.Focus) (ck : List core_machine.Frame)
         → WorldBelongs program.groups known context.globals store world → StateBelongs held f k cf ck → Standing held store f k cf ck
     Filling : (front fresh : Store) (f : machine.Focus) (k : Stack) (cf : core_machine.Focus) (ck : List core_machine.Frame)
         → WorldBelongs program.groups known context.globals front world → FillingBelongs held front fresh f k cf ck → Standing held (front ++ fresh) f k cf ck
+    Gathered : (store : Store) (f : machine.Focus) (k : Stack) (cf : core_machine.Focus) (ck : List core_machine.Frame)
+        → WorldBelongs program.groups known context.globals store world → GatheringBelongs held f k cf ck → Standing held store f k cf ck
