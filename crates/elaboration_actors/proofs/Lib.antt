@@ -1,0 +1,12 @@
+pub mod Turns
+pub mod Ends
+pub mod Methods
+pub mod Entries
+pub mod Resumptions
+pub mod Calls
+pub mod Results
+pub mod Actors
+pub mod Runs
+pub mod Messages
+pub mod Starts
+pub mod Incompatible

@@ -1,0 +1,5 @@
+pub mod Bodies
+pub mod Laws
+pub mod Actors
+pub mod Runs
+pub mod Starts
