@@ -1,0 +1,5 @@
+pub mod Checking
+pub mod Forming
+pub mod Groups
+pub mod Programs
+pub mod Trees

@@ -1,0 +1,3 @@
+pub mod Arities
+pub mod Formed
+pub mod Programs

@@ -1,0 +1,12 @@
+pub mod Bound
+pub mod Calling
+pub mod Executions
+pub mod Meeting
+pub mod Methods
+pub mod Places
+pub mod Programs
+pub mod Replaced
+pub mod Serving
+pub mod Starts
+pub mod Trees
+pub mod Whole
