@@ -12,7 +12,7 @@ ghost use Rattle.stepper.specs.declared.state.Stepper.{Stepper as Stepping};
 ghost use Rattle.stepper.specs.Runs.{StepsTo};
 ghost use Rattle.sound_steppers.specs.Sound.{GoesOn};
 
-/// Behind any events, a stepper of well-typed programs stands for a state of the meaning's run of these events, which has the items
+/// Behind any events as a host gives them, a stepper of well-typed programs stands for a state of the meaning's run of these events, which has the items
 /// that the stepper gave. This state is typed: the store, what waits, and the calls under way have their types. And the course of each
 /// further event, which the stepper follows, comes to something under any limits: its executions complete, trap, or use up a
 /// limit, and none is stuck. So an execution that needs more turns, however many are given, uses up any limit.
