@@ -1,5 +1,6 @@
 -- The execution in which an actor saves, without its cost.
-use Rattle.std.proofs.Common.{◌≡◌, ℕ, List, [], map, Option, Some, None, Vec, Global, refl, sym, ap, ap₂, ◌∙◌, subst}
+use Rattle.std.proofs.Common.{◌≡◌, ℕ, List, [], ◌∷◌, length, map, Option, Some, None, Vec, Global, refl, sym, ap, ap₂, ◌∙◌, subst}
+use Rattle.std.proofs.lemmas.List.{length-map}
 use Rattle.mo_types.specs.declared.datum.Datum.{Datum}
 use Rattle.mo_types.specs.declared.node.TypeId.{TypeId}
 use Rattle.mo_types.specs.Code.{Variable}
@@ -7,9 +8,10 @@ use Rattle.mo_types.specs.Heads.{map_option}
 use Rattle.mo_values.specs.Shapes.{Bytes}
 use Rattle.mo_actor.specs.Executions.{Completes, Execution as Executes, Progress}
 use Rattle.typed_tree.specs.declared.program.Program.{Program}
+use Rattle.typed_tree.specs.declared.program.StableVariable.{StableVariable as Written}
 use Rattle.typed_tree.specs.Language.{Functions}
 use Rattle.typed_tree.specs.Language as typed
-use Rattle.typed_tree.specs.ProgramView.{program}
+use Rattle.typed_tree.specs.ProgramView.{program, stable_variable}
 use Rattle.typed_tree.specs.Programs as typed_programs
 use Rattle.mo_meaning.specs.Coding.{Coding, IsFaithful, Types}
 use Rattle.mo_meaning.specs.Configurations as meaning
@@ -19,13 +21,12 @@ use Rattle.mo_meaning.specs.Kernel.{Kept, Outgoing}
 use Rattle.mo_meaning.specs.Saving as saving
 use Rattle.mo_meaning.specs.Saving.{alone, kept_progress, saved_progress, variables_of}
 use Rattle.mo_machine.specs.Acts.{Store}
-use Rattle.mo_machine.specs.Bodies.{beginning}
 use Rattle.mo_machine.specs.Configurations.{Breaks, Configuration, Ended, Responds, Returns, Run, Sleeps, Still, Suspends}
 use Rattle.mo_machine.specs.Configurations as configuration
 use Rattle.mo_machine.specs.Exports.{before_upgrade}
-use Rattle.mo_machine.specs.Frames.{Focus, Stack}
+use Rattle.mo_machine.specs.Frames.{Focus, Returning, Stack}
 use Rattle.mo_machine.specs.Runs.{unload_configuration, unload_run}
-use Rattle.mo_machine.specs.Starting.{hook, save_of}
+use Rattle.mo_machine.specs.Starting.{hook, save_of, saving_from}
 use Rattle.mo_machine.specs.Turns.{turns}
 use Rattle.mo_machine.specs.Unload.{unload, unload_list}
 use Rattle.mo_machine.specs.Values.{Value}
@@ -59,7 +60,7 @@ use Rattle.arena_actors.specs.declared.actor.Actor.{Actor}
 use Rattle.arena_actors.specs.States.{fields_of, IsSound}
 use Rattle.arena_saving.specs.declared.saved.Saved.{Saved}
 use Rattle.arena_saving.specs.declared.saved.Saved.TheVariants as saved
-use Rattle.arena_saving.specs.Saving.{held_in, keeping_as, parts_in, stable_cells, table_in, IsEnding, IsHooked, IsKeeping, IsReaching, IsSaved, IsSavingFrom, Saves}
+use Rattle.arena_saving.specs.Saving.{held_in, keeping_as, parts_in, stable_cells, saving_frames, table_in, IsEnding, IsHooked, IsKeeping, IsReaching, IsSaved, IsSavingFrom, Saves}
 use Rattle.arena_saving.proofs.Unloads.{cells_same, found, held_in_same, missing}
 
 -- ---- ends
@@ -120,7 +121,7 @@ module _ (coding : Coding) (types : Types) (p : typed_programs.Program) (e : typ
 
 -- ---- where the hook begins
 
-module _ (x : Actor) (m : Machine) (from : IsSavingFrom x m) (sound : IsSound x) where
+module _ (stable : List Written) (x : Actor) (m : Machine) (from : IsSavingFrom x (saving_frames stable) m) (sound : IsSound x) where
   stored : AreWithin m.arena m.store.items
   stored =
       let Of : List Node → Type 0 = λ l. AreWithin l m.store.items in
@@ -130,10 +131,14 @@ module _ (x : Actor) (m : Machine) (from : IsSavingFrom x m) (sound : IsSound x)
   pub machine_sound : (ns : List Node) → Grows m.arena ns → machines.IsSound (record m { arena = ns })
   machine_sound ns grows =
       let Of : List Frame → Type 0 = λ l. AreFramesWithin ns l in
-      record { stores = values_there m.arena ns grows m.store.items stored; frames = subst Of (sym from.frames) tt }
+      record { stores = values_there m.arena ns grows m.store.items stored; frames = subst Of (sym from.frames) (tt, tt) }
 
   pub exports_there : IsWithin m.arena x.exports
   exports_there = let Of : List Node → Type 0 = λ l. IsWithin l x.exports in subst Of (sym from.arena) sound.exports
+
+-- the frame is that of as many variables as the program has
+pub saving_here : (x : Actor) (m : Machine) (fs : List Frame) (seen stable : List Written) → fs ≡ saving_frames seen → seen ≡ stable → IsSavingFrom x fs m → IsSavingFrom x (saving_frames stable) m
+saving_here x m fs seen stable is same from = let Of : List Frame → Type 0 = λ l. IsSavingFrom x l m in subst Of (is ∙ ap (λ l. saving_frames l) same) from
 
 -- ---- the whole
 
@@ -159,7 +164,7 @@ tables_so types stable m exports (reached.Still f) s h = ap (λ (z : Saved). tab
 tables_so types stable m exports (reached.Ended e) s h = tables_ended types stable m exports e s h
 
 module _ (p : Program) (own : Bytes) (n : ℕ) (a : Around) (x : Actor) (m : Machine) (mid y : Execution) (ns : List Node) (f : Place) (r : Reached) (s : Saved) (labels : AreOwnLabels p.types)
-    (around : (coding : Coding) (types : Types) → IsFaithful coding → IsAround types a (alone coding types own)) (from : IsSavingFrom x m) (sound : IsSound x) (machine : mid.machine ≡ record m { arena = ns }) (calls : mid.calls ≡ [])
+    (around : (coding : Coding) (types : Types) → IsFaithful coding → IsAround types a (alone coding types own)) (from : IsSavingFrom x (saving_frames p.stable) m) (sound : IsSound x) (machine : mid.machine ≡ record m { arena = ns }) (calls : mid.calls ≡ [])
     (hooked : IsHooked m.arena x.exports f ns) (run : IsExecuted p.types a n mid f r y) (reaching : IsReaching p.types p.stable y.machine x.exports r s) where
   abbrev exported : (ℕ → Functions) → Value
   exported groups = value_of groups x.arena x.exports
@@ -169,17 +174,19 @@ module _ (p : Program) (own : Bytes) (n : ℕ) (a : Around) (x : Actor) (m : Mac
   exports_same groups = ap (λ (l : List Node). value_of groups l x.exports) from.arena
 
   within_there : IsWithin m.arena x.exports
-  within_there = exports_there x m from sound
+  within_there = exports_there p.stable x m from sound
 
   store_same : (groups : ℕ → Functions) → list_of groups ns m.store.items ≡ list_of groups x.arena x.store.items
   store_same groups =
-      list_stays m.arena ns m.store.items hooked.grows (stored x m from sound) groups
+      list_stays m.arena ns m.store.items hooked.grows (stored p.stable x m from sound) groups
       ∙ ap₂ (λ (l : List Node) (ids : List ValueId). list_of groups l ids) from.arena from.store
 
   -- it stands where the hook begins
-  stands : (groups : ℕ → Functions) → clean [] [] (list_of groups x.arena x.store.items) (hook (before_upgrade (exported groups))) [] ≡ standing groups mid f
+  stands : (groups : ℕ → Functions) → clean [] [] (list_of groups x.arena x.store.items) (hook (before_upgrade (exported groups))) (Returning (length (program p).stable) ∷ []) ≡ standing groups mid f
   stands groups =
-      ap₂ (λ (ts : List Bytes) (os : List Outgoing). clean ts os (list_of groups x.arena x.store.items) (hook (before_upgrade (exported groups))) []) (sym from.prints) (sym (ap (λ (l : List Call). calls_of l) calls))
+      ap₂ (λ (ts : List Bytes) (os : List Outgoing). clean ts os (list_of groups x.arena x.store.items) (hook (before_upgrade (exported groups))) (Returning (length (program p).stable) ∷ [])) (sym from.prints)
+      (sym (ap (λ (l : List Call). calls_of l) calls))
+      ∙ ap (λ (nodes : ℕ). clean m.prints (calls_of mid.calls) (list_of groups x.arena x.store.items) (hook (before_upgrade (exported groups))) (Returning nodes ∷ [])) (length-map p.stable stable_variable)
       ∙ ap₂ (λ (vs : Store) (k : Stack). clean m.prints (calls_of mid.calls) vs (hook (before_upgrade (exported groups))) k) (sym (store_same groups)) (sym (ap (λ (fs : List Frame). stack_of groups ns fs) from.frames))
       ∙ ap (λ (g : Focus). clean m.prints (calls_of mid.calls) (list_of groups ns m.store.items) g (stack_of groups ns m.frames.items))
       (ap (λ (v : Value). hook (before_upgrade v)) (sym (exports_same groups)) ∙ sym (hooked.means groups))
@@ -197,20 +204,23 @@ module _ (p : Program) (own : Bytes) (n : ℕ) (a : Around) (x : Actor) (m : Mac
     abbrev saves : Executes Kept
     saves = save_of coding p.types (program p) own (fields_of groups x.arena x.store.items x.exports)
 
-    so : free_run (turns (alone coding p.types own) n (beginning 0 (list_of groups x.arena x.store.items) (hook (before_upgrade (exported groups))) [])) ≡ reached_run groups y r
+    abbrev begins : Configuration
+    begins = saving_from (program p) (fields_of groups x.arena x.store.items x.exports)
+
+    so : free_run (turns (alone coding p.types own) n begins) ≡ reached_run groups y r
     so =
         let here : Surroundings = alone coding p.types own in
-        let c : Configuration = beginning 0 (list_of groups x.arena x.store.items) (hook (before_upgrade (exported groups))) [] in
+        let c : Configuration = begins in
         free_turns here n c ∙ ap (λ (d : Configuration). free_run (turns here n d)) (stands groups) ∙ run.means groups has here (around coding p.types faithful)
 
     completes : (saves n).completion ≡ (comes coding p.types (program p) e (reached_run groups y r)).completion
     completes =
-        completion_free coding p.types (program p) e (turns (alone coding p.types own) n (beginning 0 (list_of groups x.arena x.store.items) (hook (before_upgrade (exported groups))) []))
+        completion_free coding p.types (program p) e (turns (alone coding p.types own) n begins)
         ∙ ap (λ (k : Run). (comes coding p.types (program p) e k).completion) so
 
     printed : (saves n).prints ≡ (comes coding p.types (program p) e (reached_run groups y r)).prints
     printed =
-        prints_free coding p.types (program p) e (turns (alone coding p.types own) n (beginning 0 (list_of groups x.arena x.store.items) (hook (before_upgrade (exported groups))) []))
+        prints_free coding p.types (program p) e (turns (alone coding p.types own) n begins)
         ∙ ap (λ (k : Run). (comes coding p.types (program p) e k).prints) so
 
     -- what the cells hold, as values of the machine

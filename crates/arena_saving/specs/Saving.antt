@@ -1,6 +1,6 @@
 -- What an actor saves before an upgrade, over an arena: Motoko language manual, section "Stable variables"; base library, system
 -- function `preupgrade`.
-use Rattle.std.specs.Prelude.{◌≡◌, ℕ, List, [], ◌∷◌, ◌++◌, map, Option, Some, None}
+use Rattle.std.specs.Prelude.{◌≡◌, ℕ, List, [], ◌∷◌, ◌++◌, length, map, Option, Some, None}
 use Rattle.std.proofs.Common.{Vec, Global}
 use Rattle.mo_types.specs.declared.datum.Datum.{Datum}
 use Rattle.mo_types.specs.declared.node.TypeId.{TypeId}
@@ -28,6 +28,8 @@ use Rattle.value_arena.specs.declared.node.ValueId.{ValueId}
 use Rattle.value_arena.specs.Growth.{AreWithin, Grows}
 use Rattle.value_arena.specs.Meaning.{value_of}
 use Rattle.arena_states.specs.declared.frame.Focus.{Focus}
+use Rattle.arena_states.specs.declared.frame.Frame.{Frame}
+use Rattle.arena_states.specs.declared.frame.Frame.TheVariants as frame
 use Rattle.arena_states.specs.declared.group.GroupOf.{GroupOf}
 use Rattle.arena_states.specs.Groups.{HasGroups}
 use Rattle.arena_states.specs.Standing.{focus_of, list_of, IsFocusWithin}
@@ -91,11 +93,15 @@ parts_in types (v ∷ stable) (w ∷ vs) = and_parts (parts_at types v w) (parts
 
 -- ---- what saving comes to
 
-pub record IsSavingFrom (x : Actor) (m : Machine) : Type 0 where
+-- the frame of the body that saves, with a node for each of these variables
+abbrev pub saving_frames : List Written → List Frame
+saving_frames stable = frame.Returning (length stable) ∷ []
+
+pub record IsSavingFrom (x : Actor) (fs : List Frame) (m : Machine) : Type 0 where
   pub arena : m.arena ≡ x.arena
   pub table : m.table.items ≡ x.table.items
   pub store : m.store.items ≡ x.store.items
-  pub frames : m.frames.items ≡ []
+  pub frames : m.frames.items ≡ fs
   pub prints : m.prints ≡ []
 
 abbrev pub keeping_as : Machine → Option (Vec (Vec Datum Global) Global) → Saved

@@ -4,7 +4,7 @@ ghost use Rattle.arena_equality.specs.Own.{AreOwnLabels};
 ghost use Rattle.value_arena.specs.Growth.{IsWithin};
 ghost use Rattle.arena_actors.specs.States.{IsSound};
 ghost use Rattle.arena_machine.specs.Machines.{IsSound as IsSoundMachine};
-ghost use Rattle.arena_saving.specs.Saving.{keeping_as, IsEnding, IsKeeping, IsReaching, IsSaved, IsSavingFrom};
+ghost use Rattle.arena_saving.specs.Saving.{keeping_as, IsEnding, IsKeeping, IsReaching, IsSaved, IsSavingFrom, saving_frames};
 
 use crate::exports::cells_of;
 use crate::held::held_in;
@@ -15,15 +15,28 @@ use arena_actors::Actor;
 use arena_executions::{End, Execution, Reached, run};
 use arena_machine::Machine;
 use arena_starts::alone;
+use arena_states::Frame;
 use mo_num::{Memory, Principal, Sequence};
 use mo_types::{Datum, TypeGraph};
 use std::alloc::Global;
 use typed_tree::{Program, StableVariable};
 use value_arena::ValueId;
 
-// The machine of an actor, which has nothing to do.
-fn machine_of<'a>(alloc: Global, actor: Actor<'a>) -> Machine<'a>
-    ensures { IsSavingFrom actor.entry result }
+// The frame of the body that saves, which has a node for each stable variable. 2^32 of them are want of memory.
+fn frames_of<'a>(alloc: Global, stable: &[StableVariable]) -> Result<Vec<Frame<'a>>, Memory>
+    ensures { IfOk result (λ fs. fs.items ≡ saving_frames stable.now) }
+{
+    let Ok(nodes) = u32::try_from(stable.len()) else {
+        return Err(Memory);
+    };
+    let mut frames = Vec::new(alloc);
+    frames.push(Frame::Returning(nodes))?;
+    Ok(frames)
+}
+
+// The machine of an actor in these frames.
+fn machine_of<'a>(alloc: Global, actor: Actor<'a>, frames: Vec<Frame<'a>>) -> Machine<'a>
+    ensures { IsSavingFrom actor.entry frames.entry.items result }
 {
     let Actor {
         arena,
@@ -38,7 +51,7 @@ fn machine_of<'a>(alloc: Global, actor: Actor<'a>) -> Machine<'a>
         arena,
         table,
         store,
-        frames: Vec::new(alloc),
+        frames,
         prints: Sequence::new(alloc),
     }
 }
@@ -139,9 +152,10 @@ pub fn save<'a>(
     ensures { IfOk result (λ s. IsSaved program.now own.now turns actor.entry s) }
 {
     let around = alone(alloc, own)?;
+    let frames = frames_of(alloc, program.stable.as_slice())?;
     let exports = actor.exports;
     let mut execution = Execution {
-        machine: machine_of(alloc, actor),
+        machine: machine_of(alloc, actor, frames),
         calls: Sequence::new(alloc),
     };
     let focus = begin(alloc, &mut execution.machine.arena, exports)?;

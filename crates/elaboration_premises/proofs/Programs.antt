@@ -19,9 +19,9 @@ use Rattle.elaboration.specs.Scopes.{Place, Scope, under, in_body}
 use Rattle.elaboration.specs.Checks.{Named, Source, check, check_all, behind}
 use Rattle.elaboration.specs.Elaboration.{number_of_parameters, on_nearest, on_parameters}
 use Rattle.elaboration.specs.Programs.{kept_places, own_from, start_scope}
-use Rattle.elaboration_forms.specs.Elaborates.{StandFunctions}
+use Rattle.elaboration_forms.specs.Elaborates.{StandFunctions, DeclarationsStand}
 use Rattle.elaboration_premises.specs.Scoped.{Seen, Written, TreesStand}
-use Rattle.elaboration_premises.specs.Programs.{DeclarationsStand, StartsStand, MethodsStand, HooksStand}
+use Rattle.elaboration_premises.specs.Programs.{StartsStand, MethodsStand, HooksStand}
 use Rattle.elaboration_premises.proofs.Trees.{Opening, bound_seen, group_seen, not_shared, bound_by, step_holds, function_holds, expression_holds}
 
 pub trees_stand : TreesStand

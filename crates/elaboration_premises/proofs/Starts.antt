@@ -1,5 +1,5 @@
 -- Starts and saves of well-typed programs are as elaboration asks.
-use Rattle.std.proofs.Common.{◌≡◌, inl, inr, ◌≤◌, List, [], ◌∷◌, ◌++◌, length, map, true≢false, Option, Some, None, refl, sym, ap, ap₂, subst}
+use Rattle.std.proofs.Common.{◌≡◌, inl, inr, ℕ, ◌≤◌, List, [], ◌∷◌, ◌++◌, length, map, true≢false, Option, Some, None, refl, sym, ap, ap₂, subst}
 use Rattle.std.specs.List.{find}
 use Rattle.std.specs.Prelude.{nat_eq}
 use Rattle.mo_types.specs.declared.datum.Datum.TheVariants as part
@@ -14,8 +14,9 @@ use Rattle.mo_values.specs.Messages.{opened}
 use Rattle.mo_values.specs.Shapes.{Bytes, Leaf, Present, Tuple, Object, Shapes, NoShape, AShape, listed}
 use Rattle.typed_tree.specs.declared.program.Program.{Program}
 use Rattle.typed_tree.specs.declared.program.StableVariable.{StableVariable}
+use Rattle.typed_tree.specs.declared.action.Action.TheVariants as action
 use Rattle.typed_tree.specs.Language as typed
-use Rattle.typed_tree.specs.Language.{Value, Exp}
+use Rattle.typed_tree.specs.Language.{Value, Exp, Val, Do}
 use Rattle.typed_tree.specs.Opening.{Code, value_of, values_of}
 use Rattle.typed_tree.specs.Programs as language
 use Rattle.typed_tree.specs.ProgramView.{stable_variable, program}
@@ -29,27 +30,29 @@ use Rattle.mo_meaning.specs.Coding.{Types, Coding, IsFaithful}
 use Rattle.mo_meaning.specs.Configurations.{Surroundings}
 use Rattle.mo_meaning.specs.Kernel.{Kept}
 use Rattle.mo_meaning.specs.Messages.{as_values}
+use Rattle.mo_meaning.specs.Places.{one}
 use Rattle.mo_meaning.specs.Saving.{alone}
-use Rattle.mo_meaning.specs.Starting.{kept_slot, method_slot, outer_slots, declarations, nothing_kept, Taken, Fresh, Value?, Incompatible, first_value, taken_values, taken, all_taken, and_taken, all_kept, then_hook}
+use Rattle.mo_meaning.specs.Starting.{kept_slot, method_slot, outer_slots, declared, nothing_kept, Taken, Fresh, Value?, Incompatible, first_value, taken_values, taken, all_taken, and_taken, all_kept, then_hook}
 use Rattle.mo_soundness.specs.Keeps.{closed}
 use Rattle.mo_soundness.specs.Lawful.{IsLawful}
 use Rattle.mo_soundness.specs.Running.{Around, AnswerTypes, HasValue, HaveValues, StoreTyped, still}
 use Rattle.mo_soundness.specs.Worlds.{plain_world}
 use Rattle.mo_soundness.proofs.Found.{unit_fits}
 use Rattle.mo_soundness.proofs.Put.{has_still}
+use Rattle.mo_soundness.proofs.Wanted.{reflexive}
 use Rattle.program_soundness.specs.Bodies.{FieldsTyped}
 use Rattle.program_soundness.specs.Declared.{Declared, Last, Before}
 use Rattle.program_soundness.specs.Exports.{HookTyped, ExportsTyped}
 use Rattle.program_soundness.specs.Results.{GivesResults, AreResults}
 use Rattle.program_soundness.specs.Roles.{AHook, IsFunctionAs}
 use Rattle.program_soundness.specs.Runs.{IsTypedState}
-use Rattle.program_soundness.specs.Starting.{Soon, AllSoon, IsExporting, IsInstalling, AreExports, IsUpgrading, Refused, Begun, Looks, Found, Calls, Runs, Ends}
+use Rattle.program_soundness.specs.Starting.{Soon, AllSoon, IsExporting, IsInstalling, AreExports, IsHooking, IsUpgrading, Begun, Looks, Found, Calls, Runs, Ends}
 use Rattle.program_soundness.specs.Starts.{quiet}
 use Rattle.program_soundness.specs.Worlds.{running, kept_type}
 use Rattle.program_soundness.proofs.Carried.{kept_back}
-use Rattle.program_soundness.proofs.Entering.{hook_called_begins}
+use Rattle.program_soundness.proofs.Entering.{hook_framed_begins}
 use Rattle.program_soundness.proofs.Given.{lawful_types, variables_share}
-use Rattle.program_soundness.proofs.Installs.{KeptFit, nothing_fits, installing}
+use Rattle.program_soundness.proofs.Installs.{KeptFit, nothing_fits, exporting, installing}
 use Rattle.program_soundness.proofs.Reading.{opened_have}
 use Rattle.program_soundness.proofs.Starts.{installing_kept}
 use Rattle.program_soundness.proofs.Typed.{results_kept}
@@ -59,6 +62,7 @@ use Rattle.mo_machine.specs.ActorLanguage.{Fields, unload_fields}
 use Rattle.mo_machine.specs.Bodies.{beginning}
 use Rattle.mo_machine.specs.Configurations.{Configuration}
 use Rattle.mo_machine.specs.Environments.{extended}
+use Rattle.mo_machine.specs.Frames.{Returning}
 use Rattle.mo_machine.specs.Exports.{option_value, before_upgrade}
 use Rattle.mo_machine.specs.Runs.{unload_configuration}
 use Rattle.mo_machine.specs.Starting.{kept_value, method_value, outer_values, upgraded_from, hook, start_from}
@@ -160,14 +164,18 @@ module _ (types : List Slot) (p : Program) (answers : AnswerTypes) (kinds : List
   installing_placed e (inl h) = Framed h.0 h.1 h.2 (exporting_placed h.1 h.3)
   installing_placed e (inr h) = Done h.0 h.1
 
+  hooking_placed : (e : Exp) → IsHooking types p answers kinds e → P e
+  hooking_placed e (Begun d q h) = Named _ d _ q tt (exporting_placed d h)
+  hooking_placed e (Looks v q h) = Looked _ _ _ (v ∷ []) q refl
+  hooking_placed e (Found v x q h k) = places.Found x _ _ q k
+  hooking_placed e (Calls v f q h k) = Named _ _ _ q tt (Called f refl k)
+  hooking_placed e (Runs v b q h k) = Named _ b _ q tt (InContext (closed []) (Of k.0) k.2)
+  hooking_placed e (Ends v q h) = Done v q
+
   upgrading_placed : (e : Exp) → IsUpgrading types p answers kinds e → P e
-  upgrading_placed e (Refused q) = Operated _ typed.NoExp q tt
-  upgrading_placed e (Begun d q h) = Named _ d _ q tt (installing_placed d h)
-  upgrading_placed e (Looks v q h) = Looked _ _ _ (v ∷ []) q refl
-  upgrading_placed e (Found v x q h k) = places.Found x _ _ q k
-  upgrading_placed e (Calls v f q h k) = Named _ _ _ q tt (Called f refl k)
-  upgrading_placed e (Runs v b q h k) = Named _ b _ q tt (InContext (closed []) (Of k.0) k.2)
-  upgrading_placed e (Ends v q h) = Done v q
+  upgrading_placed e (inl q) = Operated _ typed.NoExp q tt
+  upgrading_placed e (inr (inl h)) = Framed h.0 h.1 h.2 (hooking_placed h.1 h.3)
+  upgrading_placed e (inr (inr h)) = Done h.0 h.1
 
 -- no calls were made, and none may be
 quiet_state : (s : Surroundings) (c : Configuration) → c.store ≡ [] → c.calls ≡ [] → IsTypedState s quiet [] (unload_configuration c)
@@ -181,10 +189,10 @@ module _ (coding : Coding) (faithful : IsFaithful coding) (p : Program) (w : Wel
   lawful = lawful_types p.types w.types w.basics
 
   upgraded : (o : Option (List (Option Value))) (ts : List Taken) → TakenFit p.types quiet [] ts p.stable → all_kept ts ≡ o → IsUpgrading p.types p quiet [] (focused (upgraded_from own (program p) o))
-  upgraded None ts h q = Refused refl
+  upgraded None ts h q = inl refl
   upgraded (Some os) ts h q =
-      subst (λ x. IsUpgrading p.types p quiet [] (then_hook (typed.Frame p.nodes (put x (program p).body)))) (sym (outer_same own (program p).methods os))
-      (Begun (declarations own (program p) os) refl (installing p w lawful own short quiet [] os (kept_fit p.types quiet [] ts p.stable os h q)))
+      subst (λ x. IsUpgrading p.types p quiet [] (typed.Frame p.nodes (then_hook (put x (program p).body)))) (sym (outer_same own (program p).methods os))
+      (inr (inl (p.nodes, then_hook (declared own (program p) os), refl, Begun (declared own (program p) os) refl (exporting p w lawful own short quiet [] os (kept_fit p.types quiet [] ts p.stable os h q)))))
 
   start_served : (kept : Option Kept) → Served (λ j. steps s j (start_from coding p.types (program p) own kept))
   start_served None =
@@ -195,7 +203,7 @@ module _ (coding : Coding) (faithful : IsFaithful coding) (p : Program) (w : Wel
       )
   start_served (Some kept) =
       let ts = all_taken coding kept.types p.types kept.variables (program p).stable in
-      on_the_way s w.types w.basics (λ answers kinds e. IsUpgrading p.types p answers kinds e) (AreExports p.types p) (upgrading_kept p lawful) (upgrading_placed p.types p) quiet [] (start_from coding p.types (program p) own (Some kept)) (
+      on_the_way s w.types w.basics (IsUpgrading p.types p) (AreExports p.types p) (upgrading_kept p lawful) (upgrading_placed p.types p) quiet [] (start_from coding p.types (program p) own (Some kept)) (
         quiet_state s (start_from coding p.types (program p) own (Some kept)) refl refl,
         upgraded (all_kept ts) ts (taken_fit p.types quiet [] w.types coding faithful kept.types kept.variables p.stable (variables_share p.types w.end p.stable w.stable)) refl,
       )
@@ -247,15 +255,22 @@ module _ (coding : Coding) (p : Program) (w : WellTyped p) (own : Bytes) (answer
   state : (c : Configuration) → c.store ≡ fields.cells → c.calls ≡ [] → IsTypedState around (still answers) kinds (unload_configuration c)
   state c e q = (subst (λ vs. StoreTyped (running types) (still answers) kinds (unload_list vs) kinds) (sym e) (store_still (unload_list fields.cells) kinds fit.cells), (λ m. absurd (true≢false (sym m))), λ n. q)
 
-  hook_served : (o : Option machine.Value) → OptionTyped types answers kinds o → Served (λ j. steps around j (beginning 0 fields.cells (hook o) []))
+  abbrev nodes : ℕ
+  nodes = length (program p).stable
+
+  -- where this hook is called
+  abbrev begin : Option machine.Value → Configuration
+  begin o = beginning nodes fields.cells (hook o) (Returning nodes ∷ [])
+
+  hook_served : (o : Option machine.Value) → OptionTyped types answers kinds o → Served (λ j. steps around j (begin o))
   hook_served None h =
-      on_the_way around w.types w.basics (GivesResults (running types) []) (AreResults (running types) []) (results_kept (running types) [] law) (results_placed types []) (still answers) kinds (beginning 0 fields.cells (hook None) [])
-      (state (beginning 0 fields.cells (hook None) []) refl refl, (law.unit, law.is_unit, unit_fits (running types) (still answers) kinds law.unit law.is_unit))
+      on_the_way around w.types w.basics (GivesResults (running types) []) (AreResults (running types) []) (results_kept (running types) [] law) (results_placed types []) (still answers) kinds (begin None)
+      (state (begin None) refl refl, (law.unit, law.is_unit, (law.unit, unit_fits (running types) (still answers) kinds law.unit law.is_unit, reflexive (running types).head law law.unit)))
   hook_served (Some f) h =
-      let c = beginning 0 fields.cells (hook (Some f)) [] in
+      let c = begin (Some f) in
       begun around w.types w.basics (GivesResults (running types) []) (AreResults (running types) []) (results_kept (running types) [] law) (results_placed types []) (still answers) kinds c refl (state c refl refl)
-      (hook_called_begins types law (still answers) kinds None (unload_list fields.cells) (unload f) (store_still (unload_list fields.cells) kinds fit.cells) h)
-      (serves around w.types w.basics answers kinds c (Called (unload f) refl h))
+      (hook_framed_begins types law (still answers) kinds None (unload_list fields.cells) nodes (unload f) (store_still (unload_list fields.cells) kinds fit.cells) h)
+      (serves around w.types w.basics answers kinds c (Framed nodes (Do action.Call (one (Val (unload f)))) refl (Called (unload f) refl h)))
 
 pub saves_serve : SavesServe
 saves_serve coding p w own answers kinds fields fit = hook_served coding p w own answers kinds fields fit (before_upgrade fields.exports) (hook_there p.types answers kinds fields.exports (program p) fit.exports)

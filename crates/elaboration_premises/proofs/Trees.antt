@@ -46,14 +46,14 @@ use Rattle.elaboration_premises.proofs.Bound.{names_bound, all_bound}
 abbrev form_view : F.Form-F Form Step Case Function TypedExpression → Exp
 form_view x = form_step (map-Form Form Step Case Function TypedExpression Exp StepView CaseView FunctionView Exp form declaration case_view function expression x)
 
-abbrev step_view : F.Step-F Form Step Case Function TypedExpression → StepView
+abbrev pub step_view : F.Step-F Form Step Case Function TypedExpression → StepView
 step_view x = step_step (map-Step Form Step Case Function TypedExpression Exp StepView CaseView FunctionView Exp form declaration case_view function expression x)
 
 form_viewed : (x : F.Form-F Form Step Case Function TypedExpression) → form (roll-Form x) ≡ form_view x
 unfolding form declaration case_view function expression
 form_viewed x = fold-roll-Form Exp StepView CaseView FunctionView Exp form_step step_step case_step function_step expression_step x
 
-step_viewed : (x : F.Step-F Form Step Case Function TypedExpression) → declaration (roll-Step x) ≡ step_view x
+pub step_viewed : (x : F.Step-F Form Step Case Function TypedExpression) → declaration (roll-Step x) ≡ step_view x
 unfolding form declaration case_view function expression
 step_viewed x = fold-roll-Step Exp StepView CaseView FunctionView Exp form_step step_step case_step function_step expression_step x
 
@@ -61,7 +61,7 @@ case_viewed : (x : F.Case-F Form Step Case Function TypedExpression) → case_vi
 unfolding form declaration case_view function expression
 case_viewed x = fold-roll-Case Exp StepView CaseView FunctionView Exp form_step step_step case_step function_step expression_step x
 
-function_viewed : (x : F.Function-F Form Step Case Function TypedExpression) → function (roll-Function x) ≡ record { how = x.sort; nodes = x.nodes; parameters = patterns x.parameters; body = expression x.body }
+pub function_viewed : (x : F.Function-F Form Step Case Function TypedExpression) → function (roll-Function x) ≡ record { how = x.sort; nodes = x.nodes; parameters = patterns x.parameters; body = expression x.body }
 unfolding form declaration case_view function expression
 function_viewed x = fold-roll-Function Exp StepView CaseView FunctionView Exp form_step step_step case_step function_step expression_step x
 

@@ -6,25 +6,16 @@ use Rattle.typed_tree.specs.declared.program.Method.{Method}
 use Rattle.typed_tree.specs.declared.program.Program.{Program}
 use Rattle.typed_tree.specs.declared.expression.Function.{Function}
 use Rattle.typed_tree.specs.ActionTypes.{Context}
-use Rattle.typed_tree.specs.Language.{Exp, Do, Switch, Group, AnExp, NoCase, ACase}
 use Rattle.typed_tree.specs.ProgramView.{with_context, program}
-use Rattle.typed_tree.specs.Substitution.{count}
 use Rattle.typed_tree.specs.View.{FunctionView, function}
 use Rattle.typed_tree.specs.Wants.{in_function}
 use Rattle.typed_tree.specs.WellTyped.{WellTyped, IsPublic, IsSystem}
-use Rattle.elaboration.specs.Scopes.{Scope, under, in_body}
+use Rattle.elaboration.specs.Scopes.{Scope, in_body}
 use Rattle.elaboration.specs.Checks.{behind}
-use Rattle.elaboration.specs.Elaboration.{number_of_parameters, on_nearest, on_parameters}
+use Rattle.elaboration.specs.Elaboration.{number_of_parameters, on_parameters}
 use Rattle.elaboration.specs.Programs.{start_scope}
-use Rattle.elaboration_forms.specs.Elaborates.{Stands, StandFunctions}
+use Rattle.elaboration_forms.specs.Elaborates.{Stands, DeclarationsStand}
 use Rattle.elaboration_premises.specs.Scoped.{Seen, Written}
-
--- the declarations of an actor stand, each in the scope of those before it; the last group has its own scope
-abbrev pub DeclarationsStand : Scope → Exp → Type 0
-DeclarationsStand s (Switch e (ACase p b NoCase)) = Stands false s e × DeclarationsStand (behind (on_nearest p s) s) b
-DeclarationsStand s (Group fns (Do a (AnExp functions (AnExp before (AnExp after (AnExp cells es)))))) = Unit {0}
-DeclarationsStand s (Group fns b) = StandFunctions (under (count fns) s) fns × DeclarationsStand (under (count fns) s) b
-DeclarationsStand s e = ⊥
 
 -- the body of a function stands under its parameters
 abbrev pub BodyStands : Bool → Scope → FunctionView → Type 0

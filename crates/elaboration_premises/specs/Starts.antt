@@ -11,9 +11,7 @@ use Rattle.mo_meaning.specs.Saving.{alone}
 use Rattle.mo_soundness.specs.Running.{AnswerTypes}
 use Rattle.program_soundness.specs.Bodies.{FieldsTyped}
 use Rattle.mo_machine.specs.ActorLanguage.{Fields, unload_fields}
-use Rattle.mo_machine.specs.Bodies.{beginning}
-use Rattle.mo_machine.specs.Exports.{before_upgrade}
-use Rattle.mo_machine.specs.Starting.{hook, start_from}
+use Rattle.mo_machine.specs.Starting.{saving_from, start_from}
 use Rattle.mo_machine.specs.Turns.{steps}
 use Rattle.elaboration_premises.specs.Serving.{Served}
 
@@ -26,4 +24,4 @@ StartsServe =
 abbrev pub SavesServe : Type 0
 SavesServe =
     (coding : Coding) (p : Program) → WellTyped p → (own : Bytes) (answers : AnswerTypes) (kinds : List TypeId) (fields : Fields) → FieldsTyped p.types (program p) answers kinds (unload_fields fields)
-    → Served (λ j. steps (alone coding p.types own) j (beginning 0 fields.cells (hook (before_upgrade fields.exports)) []))
+    → Served (λ j. steps (alone coding p.types own) j (saving_from (program p) fields))

@@ -6,11 +6,10 @@ use Rattle.mo_meaning.specs.Actor.{meaning, surroundings}
 use Rattle.mo_meaning.specs.Bodies as bodies
 use Rattle.mo_meaning.specs.Bodies.{shared_progress, results_of}
 use Rattle.mo_meaning.specs.Coding.{Types, Coding}
-use Rattle.mo_meaning.specs.Configurations.{Surroundings, beginning}
-use Rattle.mo_meaning.specs.Exports.{before_upgrade}
+use Rattle.mo_meaning.specs.Configurations.{Surroundings}
 use Rattle.mo_meaning.specs.Kernel.{Fields, Body, Kept}
 use Rattle.mo_meaning.specs.Saving as saving
-use Rattle.mo_meaning.specs.Saving.{alone, hook, kept_progress}
+use Rattle.mo_meaning.specs.Saving.{alone, saving_from, kept_progress}
 use Rattle.mo_meaning.specs.Starting as starting
 use Rattle.mo_meaning.specs.Starting.{start_from, fields_progress}
 use Rattle.mo_machine.specs.Actor.{body_execution, start, save, by_machine}
@@ -25,7 +24,7 @@ module _ (coding : Coding) (types : Types) (p : Program) where
 
   save_same : (own : Bytes) (fields : Fields) (n : ℕ) → save coding types p own fields n ≡ saving.save coding types p own fields n
   save_same own fields n =
-      ap (kept_progress coding types p fields.exports) (sym (run_same (alone coding types own) n (beginning 0 fields.cells (hook (before_upgrade fields.exports)))))
+      ap (kept_progress coding types p fields.exports) (sym (run_same (alone coding types own) n (saving_from p fields)))
 
 pub by_machine_same : (coding : Coding) (first : ℕ) (types : Types) (p : Program) → by_machine coding first types p ≡ meaning coding first types p
 by_machine_same coding first types p = λ i. record (meaning coding first types p) {

@@ -30,7 +30,7 @@ use Rattle.mo_meaning.specs.Turns as reductions
 use Rattle.mo_machine.specs.Values.{Value, Made, NoValue, AValue, load, load_list}
 use Rattle.mo_machine.specs.Environments.{extended}
 use Rattle.mo_machine.specs.Acts.{Store}
-use Rattle.mo_machine.specs.Frames.{Stack, Focus, Ready}
+use Rattle.mo_machine.specs.Frames.{Returning, Stack, Focus, Ready}
 use Rattle.mo_machine.specs.Configurations.{Returns, Responds, Suspends, Sleeps, Traps, Breaks, Run, Still, Ended, weighed}
 use Rattle.mo_machine.specs.Turns.{turns, turns_given}
 use Rattle.mo_machine.specs.Unload.{unload, unload_list, slots, focused, unload_state}
@@ -38,7 +38,7 @@ use Rattle.mo_machine.specs.Runs.{unload_configuration, unload_run}
 use Rattle.mo_machine.specs.ActorLanguage.{Fields, Body, Enters, Resumes, unload_fields, unload_body, unload_effects, call_of_machine, call_of_meaning, on_progress}
 use Rattle.mo_machine.specs.Exports.{value_or_unit, values_in, part_at, option_value, function_or, function_at, before_upgrade}
 use Rattle.mo_machine.specs.Bodies.{beginning, entering, run_of, shared_progress, results_of, execution_of}
-use Rattle.mo_machine.specs.Starting.{kept_value, method_value, outer_values, declared, upgraded_from, fields_progress, hook, start_from, start_of, save_of}
+use Rattle.mo_machine.specs.Starting.{kept_value, method_value, outer_values, declared, upgraded_from, fields_progress, hook, saving_from, start_from, start_of, save_of}
 use Rattle.mo_machine.specs.States.{entered, EntersAlike, ResumesAlike, RunsAlike, StartsAlike, SavesAlike}
 use Rattle.mo_machine.proofs.Depth.{depth_same}
 use Rattle.mo_machine.proofs.Runs.{turns_same, turns_given_same}
@@ -155,7 +155,7 @@ outer_same own methods kept = ap (λ r. Some (typed.leaf (part.Actor own)) ∷ r
 module _ (coding : Coding) (types : Types) (p : Program) where
   upgraded_same : (own : Bytes) (o : Option (List (Option typed.Value))) → focused (upgraded_from own p o) ≡ starting.upgraded_from own p o
   upgraded_same own None = refl
-  upgraded_same own (Some kept) = ap (λ s. then_hook (typed.Frame p.nodes (put s p.body))) (outer_same own p.methods kept)
+  upgraded_same own (Some kept) = ap (λ s. typed.Frame p.nodes (then_hook (put s p.body))) (outer_same own p.methods kept)
 
   start_upgraded_same : (own : Bytes) (kept : Kept) (ts : List Taken)
       → unload_configuration (weighed (kept_cost coding types p kept (values_of_taken ts)) (beginning p.nodes [] (upgraded_from own p (all_kept ts)) [])) ≡ starting.start_upgraded coding types p own kept ts
@@ -177,20 +177,20 @@ module _ (coding : Coding) (types : Types) (p : Program) where
       fields_same (turns s n (start_from coding types p own kept))
       ∙ ap starting.fields_progress (sym (turns_same s n (start_from coding types p own kept)) ∙ ap (reductions.turns s n) (start_from_same own kept))
 
-  hook_same : (o : Option Value) → focused (hook o) ≡ saving.hook (map_option unload o)
-  hook_same None = refl
-  hook_same (Some f) = refl
+  hook_same : (nodes : ℕ) (o : Option Value) → unload_state (hook o) (Returning nodes ∷ []) ≡ saving.hook nodes (map_option unload o)
+  hook_same nodes None = refl
+  hook_same nodes (Some f) = refl
 
   save_same : (own : Bytes) (fields : Fields) (n : ℕ) → save_of coding types p own fields n ≡ saving.save coding types p own (unload_fields fields) n
   save_same own fields n =
       let s = alone coding types own in
-      let f = hook (before_upgrade fields.exports) in
-      let c = beginning 0 fields.cells f [] in
+      let nodes = length p.stable in
+      let c = saving_from p fields in
       ap (kept_progress coding types p (unload fields.exports))
       (sym (turns_same s n c)
-      ∙ ap (reductions.turns s n) (beginning_same 0 fields.cells f []
-      ∙ ap (λ e. meaning.beginning 0 (unload_list fields.cells) e) (hook_same (before_upgrade fields.exports)
-      ∙ ap saving.hook (sym (ap exports.option_value (part_same 1 fields.exports) ∙ option_value_same (part_at 1 fields.exports))))))
+      ∙ ap (reductions.turns s n) (beginning_same nodes fields.cells (hook (before_upgrade fields.exports)) (Returning nodes ∷ [])
+      ∙ ap (λ e. meaning.beginning nodes (unload_list fields.cells) e) (hook_same nodes (before_upgrade fields.exports)
+      ∙ ap (saving.hook nodes) (sym (ap exports.option_value (part_same 1 fields.exports) ∙ option_value_same (part_at 1 fields.exports))))))
 
 entered_same : (entry : Entry) (caller : Bytes) (o : Option (List typed.Value)) → map_option unload_body (entered entry caller o) ≡ actor.entered entry caller o
 entered_same entry caller None = refl

@@ -9,10 +9,9 @@ use Rattle.typed_tree.specs.Programs.{Program}
 use Rattle.mo_meaning.specs.Actor.{meaning, surroundings}
 use Rattle.mo_meaning.specs.Bodies.{shared_progress, results_of}
 use Rattle.mo_meaning.specs.Coding.{Types, Coding}
-use Rattle.mo_meaning.specs.Configurations.{Surroundings, beginning}
-use Rattle.mo_meaning.specs.Exports.{before_upgrade}
+use Rattle.mo_meaning.specs.Configurations.{Surroundings}
 use Rattle.mo_meaning.specs.Kernel.{kernel, Fields, Body, Kept}
-use Rattle.mo_meaning.specs.Saving.{alone, hook, kept_progress}
+use Rattle.mo_meaning.specs.Saving.{alone, saving_from, kept_progress}
 use Rattle.mo_meaning.specs.Starting.{start_from, fields_progress}
 use Rattle.mo_machine.specs.Runs.{unload_run, begun, body_run}
 use Rattle.mo_machine.specs.Turns.{turns}
@@ -25,7 +24,7 @@ module _ (coding : Coding) (types : Types) (p : Program) where
   start own kept n = fields_progress (unload_run (turns (alone coding types own) n (begun (start_from coding types p own kept))))
 
   abbrev pub save : Bytes → Fields → Execution Kept
-  save own fields n = kept_progress coding types p fields.exports (unload_run (turns (alone coding types own) n (begun (beginning 0 fields.cells (hook (before_upgrade fields.exports))))))
+  save own fields n = kept_progress coding types p fields.exports (unload_run (turns (alone coding types own) n (begun (saving_from p fields))))
 
 abbrev pub by_machine : Coding → ℕ → Types → Program → actor.Program kernel
 by_machine coding first types p = record (meaning coding first types p) {

@@ -14,14 +14,14 @@ use Rattle.mo_meaning.specs.Acts as act
 use Rattle.mo_meaning.specs.Actor.{meaning, surroundings}
 use Rattle.mo_meaning.specs.Bodies.{progress, effects, shared_progress, body_execution}
 use Rattle.mo_meaning.specs.Coding.{Types, Coding}
-use Rattle.mo_meaning.specs.Configurations.{Configuration, End, Returns, Responds, Suspends, Sleeps, Traps, Breaks, Run, Still, Ended, Surroundings, beginning, weighed, moved, open_now, next_call, state_now, with_call}
-use Rattle.mo_meaning.specs.Exports.{before_upgrade, stable_cells}
+use Rattle.mo_meaning.specs.Configurations.{Configuration, End, Returns, Responds, Suspends, Sleeps, Traps, Breaks, Run, Still, Ended, Surroundings, weighed, moved, open_now, next_call, state_now, with_call}
+use Rattle.mo_meaning.specs.Exports.{stable_cells}
 use Rattle.mo_meaning.specs.Growth.{Precedes, Grows, AllGrow}
 use Rattle.mo_meaning.specs.Kernel.{Fields, Body, Enters, Resumes, Kept}
 use Rattle.mo_meaning.specs.Messages.{message_cost, unpacked}
 use Rattle.mo_meaning.specs.Places.{value_or}
 use Rattle.mo_meaning.specs.Reduce.{reduce}
-use Rattle.mo_meaning.specs.Saving.{alone, hook, held_in, variables_of, saved_progress, kept_progress, save}
+use Rattle.mo_meaning.specs.Saving.{alone, saving_from, held_in, variables_of, saved_progress, kept_progress, save}
 use Rattle.mo_meaning.specs.Starting.{start_from, fields_progress, start}
 use Rattle.mo_meaning.specs.Turns.{most_calls, most_bytes, too_long, refused, rejects, call_cost, call_of, message, given_turn, give, if_room, send, resumes, awaits, turn, turns, turns_given, then_turns, replies, as_reply}
 use Rattle.mo_meaning.proofs.Settled.{stays, given_stays}
@@ -229,7 +229,7 @@ module _ (coding : Coding) (types : Types) (p : Program) where
 
   save_grows : (own : Bytes) (fields : Fields) → Grows (save coding types p own fields)
   save_grows own fields =
-      let c = beginning 0 fields.cells (hook (before_upgrade fields.exports)) in
+      let c = saving_from p fields in
       grows (λ n. turns (alone coding types own) n c) (kept_progress coding types p fields.exports)
       (λ n d end h. stays (alone coding types own) n c d end h) (λ n. turns_grow (alone coding types own) n c)
       (λ c. refl) (kept_above fields.exports)

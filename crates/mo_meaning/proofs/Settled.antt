@@ -9,12 +9,11 @@ use Rattle.mo_meaning.specs.Acts.{Given}
 use Rattle.mo_meaning.specs.Actor.{meaning, surroundings}
 use Rattle.mo_meaning.specs.Bodies.{shared_progress, body_execution}
 use Rattle.mo_meaning.specs.Coding.{Types, Coding}
-use Rattle.mo_meaning.specs.Configurations.{Configuration, End, Returns, Run, Still, Ended, Surroundings, beginning}
-use Rattle.mo_meaning.specs.Exports.{before_upgrade}
+use Rattle.mo_meaning.specs.Configurations.{Configuration, End, Returns, Run, Still, Ended, Surroundings}
 use Rattle.mo_meaning.specs.Kernel.{Fields, Body, Enters, Resumes, Kept}
 use Rattle.mo_meaning.specs.Places.{value_or}
 use Rattle.mo_meaning.specs.Reduce.{reduce}
-use Rattle.mo_meaning.specs.Saving.{alone, hook, kept_progress, save}
+use Rattle.mo_meaning.specs.Saving.{alone, saving_from, kept_progress, save}
 use Rattle.mo_meaning.specs.Starting.{start_from, fields_progress, start}
 use Rattle.mo_meaning.specs.Turns.{turn, turns, turns_given, then_turns, give, as_reply}
 
@@ -76,8 +75,8 @@ module _ (coding : Coding) (types : Types) (p : Program) where
 
   save_settles : (own : Bytes) (fields : Fields) → Settles (save coding types p own fields)
   save_settles own fields =
-      settles (λ n. turns (alone coding types own) n (beginning 0 fields.cells (hook (before_upgrade fields.exports))))
-      (λ n d end h. stays (alone coding types own) n (beginning 0 fields.cells (hook (before_upgrade fields.exports))) d end h)
+      settles (λ n. turns (alone coding types own) n (saving_from p fields))
+      (λ n d end h. stays (alone coding types own) n (saving_from p fields) d end h)
       (kept_progress coding types p fields.exports) (λ c. refl)
 
   pub all_settle : (first : ℕ) → IsSettled (meaning coding first types p)

@@ -1,7 +1,12 @@
 -- How deep an expression stands: 16 and its nodes for each body that was entered and not left. All of them stand around the
 -- leftmost place.
+use Rattle.std.specs.Int.{div_ceil}
 use Rattle.std.specs.Prelude.{ℕ, ◌+◌}
 use Rattle.typed_tree.specs.Language.{Exp, Exps, Do, If, Switch, Frame, Label, For, Try, Update, NoExp, AnExp}
+
+-- a body with so many nodes as levels of a value, of which each is as deep as a body without nodes
+abbrev pub levels_of_body : ℕ → ℕ
+levels_of_body nodes = 1 + div_ceil nodes 16
 
 abbrev mutual
   pub live : Exp → ℕ

@@ -1,6 +1,6 @@
 -- What an upgrade keeps of the old program: Motoko language manual, section "Stable variables"; base library, system
 -- functions `preupgrade` and `postupgrade`. The hook runs first; then each stable variable goes out at its type.
-use Rattle.std.specs.Prelude.{◌+◌, List, [], ◌∷◌, length, Option, Some, None}
+use Rattle.std.specs.Prelude.{ℕ, ◌+◌, List, [], ◌∷◌, length, Option, Some, None}
 use Rattle.mo_types.specs.declared.node.TypeId.{TypeId}
 use Rattle.mo_types.specs.Calls.{no_calls}
 use Rattle.mo_types.specs.Code.{Variable}
@@ -10,7 +10,7 @@ use Rattle.mo_values.specs.Shapes.{Bytes}
 use Rattle.mo_actor.specs.Executions.{Progress, Execution, Completion, Completes}
 use Rattle.mo_actor.specs.Executions as execution
 use Rattle.typed_tree.specs.declared.action.Action.TheVariants as action
-use Rattle.typed_tree.specs.Language.{Value, Exp, Val, Do, unit}
+use Rattle.typed_tree.specs.Language.{Value, Exp, Val, Do, Frame, unit}
 use Rattle.typed_tree.specs.Opening.{shapes_list}
 use Rattle.typed_tree.specs.Programs.{Program, StableVariable}
 use Rattle.mo_meaning.specs.Acts.{Store}
@@ -28,9 +28,14 @@ use Rattle.mo_meaning.specs.Turns.{turns}
 abbrev pub alone : Coding → Types → Bytes → Surroundings
 alone coding types own = record { types = types; coding = coding; own = own; table = no_calls 0 }
 
-abbrev pub hook : Option Value → Exp
-hook None = Val unit
-hook (Some f) = Do action.Call (one (Val f))
+-- the hook, if there is one, is called in a body of so many nodes
+abbrev pub hook : ℕ → Option Value → Exp
+hook nodes None = Frame nodes (Val unit)
+hook nodes (Some f) = Frame nodes (Do action.Call (one (Val f)))
+
+-- the body that saves: a node for each stable variable, whose value it takes
+abbrev pub saving_from : Program → Fields → Configuration
+saving_from p fields = beginning (length p.stable) fields.cells (hook (length p.stable) (before_upgrade fields.exports))
 
 -- ---- the stable variables with their values
 
@@ -75,4 +80,4 @@ module _ (coding : Coding) (types : Types) (p : Program) where
 
   -- the hook before an upgrade, and then what is kept
   abbrev pub save : Bytes → Fields → Execution Kept
-  save own fields n = kept_progress fields.exports (turns (alone coding types own) n (beginning 0 fields.cells (hook (before_upgrade fields.exports))))
+  save own fields n = kept_progress fields.exports (turns (alone coding types own) n (saving_from p fields))

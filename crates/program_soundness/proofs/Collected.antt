@@ -27,7 +27,6 @@ use Rattle.program_soundness.specs.Starting.{Soon, IsCollecting}
 use Rattle.program_soundness.proofs.Declared.{cells_put, roles_length}
 use Rattle.program_soundness.proofs.Roles.{covers_unused, roles_count}
 use Rattle.program_soundness.specs.Worlds.{running}
-use Rattle.mo_soundness.proofs.Put.{named}
 
 -- ---- names of functions become functions
 

@@ -12,15 +12,16 @@ use Rattle.mo_values.specs.Shapes.{Bytes, Leaf, Object, Shape}
 use Rattle.typed_tree.specs.declared.action.Action.TheVariants as action
 use Rattle.typed_tree.specs.ActionTypes.{ResultOf}
 use Rattle.typed_tree.specs.Has.{field_want, by_mutability}
-use Rattle.typed_tree.specs.Language.{Value, Exp, Functions, Made, Function, BuiltIn, NoValue, AValue, Val, Do, AnExp, NoFunction, AFunction, leaf}
+use Rattle.typed_tree.specs.Language.{Value, Exp, Functions, Made, Function, BuiltIn, NoValue, AValue, Val, Do, Frame, AnExp, NoFunction, AFunction, leaf}
 use Rattle.typed_tree.specs.Opening.{Code, shape_of, shapes_list, slots_of}
 use Rattle.typed_tree.specs.Patterns.{Pat, Pats, NoPat, APat, Found, all_of, matches, matches_all}
 use Rattle.typed_tree.specs.Substitution.{group_of}
 use Rattle.typed_tree.specs.Wants.{Want, Of, in_function}
-use Rattle.mo_meaning.specs.Acts.{Store, Given}
+use Rattle.mo_meaning.specs.Acts.{Store, Given, Act}
 use Rattle.mo_meaning.specs.Actions.{act}
 use Rattle.mo_meaning.specs.Bodies.{context, called}
 use Rattle.mo_meaning.specs.Calls.{are_as_many, entered, entering, call_function}
+use Rattle.mo_meaning.specs.Jumps.{at_frame}
 use Rattle.mo_meaning.specs.Places.{and_value, values_or, operands, one}
 use Rattle.mo_meaning.specs.Reduce.{reduce, reduce_operand}
 use Rattle.mo_soundness.specs.Keeps.{HasEach}
@@ -73,6 +74,11 @@ module _ (types : List Slot) (lawful : IsLawful (running types).head) (answers :
   both_matched ms ns (Some us) None h i = tt
   both_matched ms ns (Some us) (Some vs) h i = both_named ms ns us vs h i
 
+  -- the call of a hook, and such a call in a frame
+  abbrev HookBegins : Store → Act → Type 0
+  HookBegins store a =
+      Begins (running types) (GivesResults (running types) []) answers kinds a × ((nodes : ℕ) → Begins (running types) (GivesResults (running types) []) answers kinds (at_frame store nodes a))
+
   -- ---- the function of a group
 
   module _ (store : Store) (st : StoreTyped (running types) answers kinds store kinds) (group : Functions) (all : List Role) (typed : RolesTyped types answers kinds (in_group all) all group) where
@@ -116,16 +122,18 @@ module _ (types : List Slot) (lawful : IsLawful (running types).head) (answers :
             (all_typed (running types) answers kinds lawful qs ps k.1 k.4 (shapes_list vs) (names_of (running types) lawful answers kinds (map (λ t. Of t) ps) vs args))))
     method_begins may ps rs caller vs short args (AFunction how m qs body fns) (role ∷ roles) (suc n) h q = method_begins may ps rs caller vs short args fns roles n h.1 q
 
-    hook_begins : (fns : Functions) (roles : List Role) (n : ℕ) → RolesTyped types answers kinds (in_group all) roles fns → slice_get roles n ≡ Some AHook → Begins (running types) (GivesResults (running types) []) answers kinds (call_function store group fns n [])
+    -- a hook's body has a frame of its own, so another one may stand around it
+    hook_begins : (fns : Functions) (roles : List Role) (n : ℕ) → RolesTyped types answers kinds (in_group all) roles fns → slice_get roles n ≡ Some AHook → HookBegins store (call_function store group fns n [])
     hook_begins NoFunction [] n h q = absurd (let z : None ≡ Some AHook = q in cc)
     hook_begins NoFunction (role ∷ roles) n h q = absurd h
     hook_begins (AFunction how m qs body fns) [] n h q = absurd h
     hook_begins (AFunction how m qs body fns) (role ∷ roles) zero h q = by qs (subst (λ role. PlaysRole types answers kinds (in_group all) role qs body) (let same : role ≡ AHook = cc in same) h.0)
       where
-        by : (qs : Pats) → PlaysRole types answers kinds (in_group all) AHook qs body → Begins (running types) (GivesResults (running types) []) answers kinds (call_function store group (AFunction how m qs body fns) zero [])
+        by : (qs : Pats) → PlaysRole types answers kinds (in_group all) AHook qs body → HookBegins store (call_function store group (AFunction how m qs body fns) zero [])
         by NoPat k =
-            entered_begins [] k.0 (entering m NoPat []) m body [] (Some []) k.1
-            (typed_grow (running types) (still answers) answers (knows_still answers) kinds kinds (longer_self kinds) (in_body [] k.0 (in_group all)) body (Of k.0) k.2) tt
+            let b = entered_begins [] k.0 (entering m NoPat []) m body [] (Some []) k.1
+            (typed_grow (running types) (still answers) answers (knows_still answers) kinds kinds (longer_self kinds) (in_body [] k.0 (in_group all)) body (Of k.0) k.2) tt in
+            (b, λ nodes. (b.0, b.1, b.2, (b.3.0, b.3.1, (b.3.0, b.3.2, reflexive (running types).head lawful b.3.0))))
         by (APat p qs) k = absurd k
     hook_begins (AFunction how m qs body fns) (role ∷ roles) (suc n) h q = hook_begins fns roles n h.1 q
 
@@ -140,8 +148,16 @@ module _ (types : List Slot) (lawful : IsLawful (running types).head) (answers :
   called_begins may given store ps rs (Made k inner) caller vs st h short args = absurd h
   called_begins may given store ps rs (BuiltIn m holds) caller vs st h short args = absurd h
 
+  hook_called : (given : Option Given) (store : Store) (f : Value) → StoreTyped (running types) answers kinds store kinds → IsFunctionAs types answers kinds AHook f
+      → HookBegins store (reduce (head_at types) given store (Do action.Call (one (Val f))))
+  hook_called given store (Function group which) st h = hook_begins store st group h.0 h.1 group h.0 which h.1 h.2
+  hook_called given store (Made k inner) st h = absurd h
+  hook_called given store (BuiltIn m holds) st h = absurd h
+
   pub hook_called_begins : (given : Option Given) (store : Store) (f : Value) → StoreTyped (running types) answers kinds store kinds → IsFunctionAs types answers kinds AHook f
       → Begins (running types) (GivesResults (running types) []) answers kinds (reduce (head_at types) given store (Do action.Call (one (Val f))))
-  hook_called_begins given store (Function group which) st h = hook_begins store st group h.0 h.1 group h.0 which h.1 h.2
-  hook_called_begins given store (Made k inner) st h = absurd h
-  hook_called_begins given store (BuiltIn m holds) st h = absurd h
+  hook_called_begins given store f st h = (hook_called given store f st h).0
+
+  pub hook_framed_begins : (given : Option Given) (store : Store) (nodes : ℕ) (f : Value) → StoreTyped (running types) answers kinds store kinds → IsFunctionAs types answers kinds AHook f
+      → Begins (running types) (GivesResults (running types) []) answers kinds (reduce (head_at types) given store (Frame nodes (Do action.Call (one (Val f)))))
+  hook_framed_begins given store nodes f st h = (hook_called given store f st h).1 nodes

@@ -33,11 +33,10 @@ use Rattle.mo_meaning.specs.Actor.{meaning, surroundings, entered as reads, meth
 use Rattle.mo_meaning.specs.Acts.{Given}
 use Rattle.mo_meaning.specs.Bodies.{body_execution, shared_progress}
 use Rattle.mo_meaning.specs.Coding.{Types, Coding, IsFaithful}
-use Rattle.mo_meaning.specs.Configurations.{Configuration, End, Returns, Responds, Suspends, Sleeps, Traps, Breaks, Run, Still, Ended, Surroundings, beginning, weighed}
-use Rattle.mo_meaning.specs.Exports.{before_upgrade}
+use Rattle.mo_meaning.specs.Configurations.{Configuration, End, Returns, Responds, Suspends, Sleeps, Traps, Breaks, Run, Still, Ended, Surroundings, weighed}
 use Rattle.mo_meaning.specs.Kernel.{kernel, Fields, Kept, Waiting, Entry, Body, Enters, Resumes}
 use Rattle.mo_meaning.specs.Messages.{read_values, message_cost}
-use Rattle.mo_meaning.specs.Saving.{alone, hook, kept_progress}
+use Rattle.mo_meaning.specs.Saving.{alone, saving_from, kept_progress}
 use Rattle.mo_meaning.specs.Starting.{fields_progress, start_from}
 use Rattle.mo_meaning.specs.Turns.{message, most_bytes, too_long, give, turns, then_turns, turns_given, replies, as_reply}
 use Rattle.mo_meaning.proofs.Payment.{all_paid}
@@ -188,8 +187,8 @@ module _ (coding : Coding) (faithful : IsFaithful coding) (p : TypedProgram) (w 
   module _ (answers : AnswerTypes) (kinds : List TypeId) (a : Actor kernel) (k : Known coding faithful p w own short answers kinds a) where
     program_saves : GoesOn (M.save own a.store)
     program_saves n =
-        let run = turns (alone coding p.types own) n (beginning 0 a.store.cells (hook (before_upgrade a.store.exports))) in
-        save_goes coding p.types (program p) a.store.exports n run (turns_weigh (alone coding p.types own) n (beginning 0 a.store.cells (hook (before_upgrade a.store.exports))))
+        let run = turns (alone coding p.types own) n (saving_from (program p) a.store) in
+        save_goes coding p.types (program p) a.store.exports n run (turns_weigh (alone coding p.types own) n (saving_from (program p) a.store))
         (λ c end q. run_quiet (alone coding p.types own) (GivesResults (running p.types) []) (AreResults (running p.types) []) run c end (still answers) kinds refl
         (hook_run_ends coding p.types (program p) lawful shared own answers kinds a.store k.fields n) q)
         (λ c v q. hook_saves coding p.types (program p) lawful shared (program_shares p w).stable own answers kinds a.store k.fields n c v q)

@@ -31,7 +31,7 @@ use Rattle.mo_meaning.specs.Configurations.{Returns, Responds, Suspends, Sleeps,
 use Rattle.mo_meaning.specs.Kernel.{Fields, Kept}
 use Rattle.mo_meaning.specs.Messages.{as_values}
 use Rattle.mo_meaning.specs.Saving.{alone}
-use Rattle.mo_meaning.specs.Starting.{kept_slot, method_slot, outer_slots, declarations, nothing_kept, Taken, Fresh, Value?, Incompatible, first_value, taken_values, taken, all_taken, and_taken, all_kept, upgraded_from, start_from, fields_progress, start}
+use Rattle.mo_meaning.specs.Starting.{kept_slot, method_slot, outer_slots, declared, declarations, nothing_kept, Taken, Fresh, Value?, Incompatible, first_value, taken_values, taken, all_taken, and_taken, all_kept, then_hook, upgraded_from, start_from, fields_progress, start}
 use Rattle.mo_meaning.specs.Turns.{turns}
 use Rattle.mo_soundness.specs.Keeps.{KnowsMore}
 use Rattle.mo_soundness.specs.Lawful.{IsLawful}
@@ -42,7 +42,7 @@ use Rattle.mo_soundness.proofs.Put.{Covers, NameFits}
 use Rattle.program_soundness.specs.Bodies.{FieldsTyped}
 use Rattle.program_soundness.specs.Roles.{calling}
 use Rattle.program_soundness.specs.Runs.{Fitting, EndsFit}
-use Rattle.program_soundness.specs.Starting.{IsInstalling, AreExports, IsUpgrading, Refused, Begun}
+use Rattle.program_soundness.specs.Starting.{IsExporting, IsInstalling, AreExports, IsUpgrading, Begun}
 use Rattle.program_soundness.specs.Starts.{quiet, IsStarting}
 use Rattle.program_soundness.proofs.Declared.{declared_put}
 use Rattle.program_soundness.proofs.Exported.{exports_grow}
@@ -161,19 +161,18 @@ public_names p c (m ∷ ms) h = ((h.0.name.0, h.0.shared), public_names p c ms h
 -- ---- the start
 
 module _ (p : Program) (w : WellTyped p) (lawful : IsLawful (running p.types).head) (own : Bytes) (short : length own ≤ 29) where
+  pub exporting : (answers : AnswerTypes) (kinds : List TypeId) (kept : List (Option Value)) → KeptFit p.types answers kinds kept p.stable → IsExporting p.types p answers kinds (declared own (program p) kept)
+  exporting answers kinds kept h =
+      inl (declared_put p.types lawful answers kinds p (around_declarations p.types w.own w.methods p.stable) (program p).body (outer_slots own (program p).methods kept) [] (
+        refl,
+        actor_has p.types lawful answers kinds own short p.methods w.own w.own_is,
+        methods_cover p.types lawful answers kinds own short p w p.methods w.methods (map kept_slot kept) (map (λ v. KeptOf (kept_type p.types v.of_type)) p.stable) w.methods_are (public_names p (behind p w.end) p.methods w.public)
+            (kept_cover p.types lawful answers kinds own short kept p.stable h),
+      )
+      (program_declared p w lawful answers kinds))
+
   pub installing : (answers : AnswerTypes) (kinds : List TypeId) (kept : List (Option Value)) → KeptFit p.types answers kinds kept p.stable → IsInstalling p.types p answers kinds (declarations own (program p) kept)
-  installing answers kinds kept h = inl (
-    p.nodes,
-    _,
-    refl,
-    inl (declared_put p.types lawful answers kinds p (around_declarations p.types w.own w.methods p.stable) (program p).body (outer_slots own (program p).methods kept) [] (
-      refl,
-      actor_has p.types lawful answers kinds own short p.methods w.own w.own_is,
-      methods_cover p.types lawful answers kinds own short p w p.methods w.methods (map kept_slot kept) (map (λ v. KeptOf (kept_type p.types v.of_type)) p.stable) w.methods_are (public_names p (behind p w.end) p.methods w.public)
-          (kept_cover p.types lawful answers kinds own short kept p.stable h),
-    )
-        (program_declared p w lawful answers kinds)),
-  )
+  installing answers kinds kept h = inl (p.nodes, declared own (program p) kept, refl, exporting answers kinds kept h)
 
   module _ (coding : Coding) (faithful : IsFaithful coding) (shares : Each (λ v. IsShareable (head_at p.types) v.of_type) p.stable) where
     abbrev s : Surroundings
@@ -183,10 +182,15 @@ module _ (p : Program) (w : WellTyped p) (lawful : IsLawful (running p.types).he
     upgraded kept = by (all_kept (all_taken coding kept.types p.types kept.variables (program p).stable)) refl
       where
         by : (o : Option (List (Option Value))) → all_kept (all_taken coding kept.types p.types kept.variables (program p).stable) ≡ o → IsUpgrading p.types p quiet [] (upgraded_from own (program p) o)
-        by None q = Refused refl
-        by (Some os) q = Begun (declarations own (program p) os) refl
-            (installing quiet [] os (kept_fit p.types quiet [] (all_taken coding kept.types p.types kept.variables (program p).stable) p.stable os
-            (taken_fit p.types quiet [] w.types coding faithful kept.types kept.variables p.stable shares) q))
+        by None q = inl refl
+        by (Some os) q = inr (inl (
+          p.nodes,
+          then_hook (declared own (program p) os),
+          refl,
+          Begun (declared own (program p) os) refl
+              (exporting quiet [] os (kept_fit p.types quiet [] (all_taken coding kept.types p.types kept.variables (program p).stable) p.stable os
+              (taken_fit p.types quiet [] w.types coding faithful kept.types kept.variables p.stable shares) q)),
+        ))
 
     pub start_ends : AreLawful p.types → (o : Option Kept) (n : ℕ) → EndsFit s (IsStarting p.types p o) (AreExports p.types p) quiet [] (turns s n (start_from coding p.types (program p) own o))
     start_ends shared None n =
@@ -194,8 +198,8 @@ module _ (p : Program) (w : WellTyped p) (lawful : IsLawful (running p.types).he
         (turns_fit s lawful shared (IsInstalling p.types p) (AreExports p.types p) (installing_kept p lawful) n (start_from coding p.types (program p) own None) quiet []
         ((tt, λ m n t q. absurd (let z : None ≡ Some t = q in cc), λ e. refl), installing quiet [] (nothing_kept (program p).stable) (nothing_fits p.types quiet [] p.stable)))
     start_ends shared (Some kept) n =
-        run_ends s lawful shared (λ answers kinds e. IsUpgrading p.types p answers kinds e) (AreExports p.types p) (upgrading_kept p lawful) _ quiet []
-        (turns_fit s lawful shared (λ answers kinds e. IsUpgrading p.types p answers kinds e) (AreExports p.types p) (upgrading_kept p lawful) n (start_from coding p.types (program p) own (Some kept)) quiet []
+        run_ends s lawful shared (IsUpgrading p.types p) (AreExports p.types p) (upgrading_kept p lawful) _ quiet []
+        (turns_fit s lawful shared (IsUpgrading p.types p) (AreExports p.types p) (upgrading_kept p lawful) n (start_from coding p.types (program p) own (Some kept)) quiet []
         ((tt, λ m n t q. absurd (let z : None ≡ Some t = q in cc), λ e. refl), upgraded kept))
 
     abbrev cells_in : Option (Completion Fields) → Fields → Fields

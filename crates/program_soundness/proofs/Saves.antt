@@ -1,12 +1,12 @@
 -- What an upgrade saves of a well-typed program: the hook before it never breaks, and each stable variable has a value of its type.
-use Rattle.std.proofs.Common.{◌≡◌, inl, inr, ℕ, List, [], ◌∷◌, true≢false, Some, None, refl, sym, ap, ap₂, subst}
+use Rattle.std.proofs.Common.{◌≡◌, inl, inr, ℕ, List, [], ◌∷◌, length, true≢false, Some, None, refl, sym, ap, ap₂, subst}
 use Rattle.mo_types.specs.declared.node.TypeId.{TypeId}
 use Rattle.mo_types.specs.Code.{Variable}
 use Rattle.mo_types.specs.Graph.{head_at}
 use Rattle.mo_types.specs.Sub.{IsSomething, Each}
 use Rattle.mo_values.specs.Messages.{joined}
 use Rattle.mo_values.specs.Shapes.{Bytes, Cell}
-use Rattle.typed_tree.specs.Language.{Value, Values, Made, Function, BuiltIn, NoValue, AValue, Val, unit}
+use Rattle.typed_tree.specs.Language.{Value, Values, Made, Function, BuiltIn, NoValue, AValue}
 use Rattle.typed_tree.specs.Programs.{Program, StableVariable}
 use Rattle.typed_tree.specs.Shareable.{IsShareable}
 use Rattle.typed_tree.specs.Wants.{Of, CellOf, Equal}
@@ -14,11 +14,11 @@ use Rattle.mo_meaning.specs.Acts.{Store}
 use Rattle.mo_meaning.specs.Cells.{cell_of, held}
 use Rattle.mo_meaning.specs.Coding.{Types, Coding}
 use Rattle.mo_meaning.specs.Configurations.{Configuration, Returns, Run, Ended, Surroundings, beginning}
-use Rattle.mo_meaning.specs.Exports.{before_upgrade, option_value, part_at}
+use Rattle.mo_meaning.specs.Exports.{option_value, part_at}
 use Rattle.mo_meaning.specs.Kernel.{Fields}
 use Rattle.mo_meaning.specs.Messages.{joined_values}
 use Rattle.mo_meaning.specs.Places.{value_list}
-use Rattle.mo_meaning.specs.Saving.{alone, hook, and_variable, variables_of, and_held, held_in, kept_progress, saved_progress, save}
+use Rattle.mo_meaning.specs.Saving.{alone, hook, saving_from, and_variable, variables_of, and_held, held_in, kept_progress, saved_progress, save}
 use Rattle.mo_meaning.specs.Turns.{turns}
 use Rattle.mo_soundness.specs.Lawful.{IsLawful}
 use Rattle.mo_soundness.specs.Running.{AnswerTypes, still, HasValue, StoreTyped}
@@ -26,11 +26,12 @@ use Rattle.mo_soundness.proofs.Cells.{store_at}
 use Rattle.mo_soundness.proofs.Found.{unit_fits}
 use Rattle.mo_soundness.proofs.Less.{has_sub}
 use Rattle.mo_soundness.proofs.Put.{has_still}
+use Rattle.mo_soundness.proofs.Wanted.{reflexive}
 use Rattle.program_soundness.specs.Bodies.{FieldsTyped}
 use Rattle.program_soundness.specs.Exports.{HookTyped, CellsTyped}
 use Rattle.program_soundness.specs.Results.{GivesResults, AreResults}
 use Rattle.program_soundness.specs.Runs.{EndsFit}
-use Rattle.program_soundness.proofs.Entering.{hook_called_begins}
+use Rattle.program_soundness.proofs.Entering.{hook_framed_begins}
 use Rattle.program_soundness.proofs.Exported.{cells_grow}
 use Rattle.program_soundness.proofs.Messages.{goes_out}
 use Rattle.program_soundness.proofs.Turns.{begun_ends, run_ends, turns_fit}
@@ -54,21 +55,27 @@ module _ (coding : Coding) (types : Types) (p : Program) (lawful : IsLawful (run
   store_still (v ∷ vs) [] h = absurd h
   store_still (v ∷ vs) (t ∷ ts) h = (has_still (running types) answers kinds v (Of t) h.0, store_still vs ts h.1)
 
-  hook_ends : (x : Value) (n : ℕ) → HookTyped types answers kinds x → Ends (turns s n (beginning 0 fields.cells (hook (option_value x))))
-  hook_ends x n (inl q) =
-      subst (λ x. Ends (turns s n (beginning 0 fields.cells (hook (option_value x))))) (sym q)
-      (run_ends s lawful shared (GivesResults (running types) []) (AreResults (running types) []) (results_kept (running types) [] lawful) (turns s n (beginning 0 fields.cells (Val unit))) (still answers) kinds
-      (turns_fit s lawful shared (GivesResults (running types) []) (AreResults (running types) []) (results_kept (running types) [] lawful) n (beginning 0 fields.cells (Val unit)) (still answers) kinds
-      ((store_still fields.cells kinds typed.cells, λ e. absurd (true≢false (sym e)), λ e. refl), (lawful.unit, lawful.is_unit, unit_fits (running types) (still answers) kinds lawful.unit lawful.is_unit))))
-  hook_ends x n (inr h) =
-      subst (λ x. Ends (turns s n (beginning 0 fields.cells (hook (option_value x))))) (sym h.1)
-      (begun_ends s lawful shared (GivesResults (running types) []) (AreResults (running types) []) (results_kept (running types) [] lawful) n (beginning 0 fields.cells (hook (Some h.0))) (still answers) kinds
-      (store_still fields.cells kinds typed.cells, λ e. absurd (true≢false (sym e)), λ e. refl) tt
-      (hook_called_begins types lawful (still answers) kinds None fields.cells h.0 (store_still fields.cells kinds typed.cells) h.2))
+  -- where the hook is x
+  abbrev begin : Value → Configuration
+  begin x = beginning (length p.stable) fields.cells (hook (length p.stable) (option_value x))
 
-  pub hook_run_ends : (n : ℕ) → Ends (turns s n (beginning 0 fields.cells (hook (before_upgrade fields.exports))))
-  hook_run_ends n =
-      subst (λ x. Ends (turns s n (beginning 0 fields.cells (hook (option_value x))))) (sym (ap (part_at 1) typed.exports.is)) (hook_ends typed.exports.before n typed.exports.before_upgrade)
+  hook_ends : (x : Value) (n : ℕ) → HookTyped types answers kinds x → Ends (turns s n (begin x))
+  hook_ends x n (inl q) =
+      let c = beginning (length p.stable) fields.cells (hook (length p.stable) None) in
+      subst (λ x. Ends (turns s n (begin x))) (sym q)
+      (run_ends s lawful shared (GivesResults (running types) []) (AreResults (running types) []) (results_kept (running types) [] lawful) (turns s n c) (still answers) kinds
+      (turns_fit s lawful shared (GivesResults (running types) []) (AreResults (running types) []) (results_kept (running types) [] lawful) n c (still answers) kinds (
+        (store_still fields.cells kinds typed.cells, λ e. absurd (true≢false (sym e)), λ e. refl),
+        (lawful.unit, lawful.is_unit, (lawful.unit, unit_fits (running types) (still answers) kinds lawful.unit lawful.is_unit, reflexive (running types).head lawful lawful.unit)),
+      )))
+  hook_ends x n (inr h) =
+      subst (λ x. Ends (turns s n (begin x))) (sym h.1)
+      (begun_ends s lawful shared (GivesResults (running types) []) (AreResults (running types) []) (results_kept (running types) [] lawful) n (beginning (length p.stable) fields.cells (hook (length p.stable) (Some h.0))) (still answers) kinds
+      (store_still fields.cells kinds typed.cells, λ e. absurd (true≢false (sym e)), λ e. refl) tt
+      (hook_framed_begins types lawful (still answers) kinds None fields.cells (length p.stable) h.0 (store_still fields.cells kinds typed.cells) h.2))
+
+  pub hook_run_ends : (n : ℕ) → Ends (turns s n (saving_from p fields))
+  hook_run_ends n = subst (λ x. Ends (turns s n (begin x))) (sym (ap (part_at 1) typed.exports.is)) (hook_ends typed.exports.before n typed.exports.before_upgrade)
 
   cells_still : (vs : List StableVariable) (cells : Values) → CellsTyped types answers kinds vs cells → CellsTyped types (still answers) kinds vs cells
   cells_still [] NoValue h = tt
@@ -123,7 +130,7 @@ module _ (coding : Coding) (types : Types) (p : Program) (lawful : IsLawful (run
       subst (λ x. IsSomething (kept_progress coding types p x (Ended c (Returns v))).completion) (sym typed.exports.is)
       (subst (λ o. IsSomething (saved_progress coding types p (held_in c.store (value_list typed.exports.cells)) c o).completion) (sym there.1) tt)
 
-  pub hook_saves : (n : ℕ) (c : Configuration) (v : Value) → turns (alone coding types own) n (beginning 0 fields.cells (hook (before_upgrade fields.exports))) ≡ Ended c (Returns v) → IsSomething (save coding types p own fields n).completion
+  pub hook_saves : (n : ℕ) (c : Configuration) (v : Value) → turns (alone coding types own) n (saving_from p fields) ≡ Ended c (Returns v) → IsSomething (save coding types p own fields n).completion
   hook_saves n c v q =
       subst (λ run. IsSomething (kept_progress coding types p fields.exports run).completion) (sym q)
       (kept_there c v (subst (λ run. Ends coding types p lawful shared own answers kinds fields typed run) q (hook_run_ends coding types p lawful shared own answers kinds fields typed n)))

@@ -38,7 +38,7 @@ use Rattle.program_soundness.specs.Declared.{ending, roles_of, CellsNamed, Decla
 use Rattle.program_soundness.specs.Exports.{ExportsTyped}
 use Rattle.program_soundness.specs.Roles.{unused, RolesTyped}
 use Rattle.program_soundness.specs.Runs.{Fitting, KeepsFit, IsKept, Gives}
-use Rattle.program_soundness.specs.Starting.{AllSoon, IsExporting, IsInstalling, AreExports}
+use Rattle.program_soundness.specs.Starting.{AllSoon, IsExporting, IsFramed, IsInstalling, AreExports}
 use Rattle.program_soundness.proofs.Collected.{collected, listed_shapes}
 use Rattle.program_soundness.proofs.Declared.{declared_put, declared_grow}
 use Rattle.program_soundness.proofs.Exported.{exports_grow}
@@ -224,37 +224,54 @@ module _ (p : Program) (lawful : IsLawful (running p.types).head) where
   exported_value answers kinds v (inr (inl h)) = absurd (subst IsNoValue (sym h.2) tt)
   exported_value answers kinds v (inr (inr h)) = let same : h.0 ≡ v = cc in subst (ExportsTyped p.types answers kinds (program p)) same h.2
 
-  -- ---- the frame around them
-
-  abbrev I : Fitting Exp
-  I = IsInstalling p.types p
-
-  installing_value : (answers : AnswerTypes) (kinds : List TypeId) (v : Value) → I answers kinds (Val v) → ExportsTyped p.types answers kinds (program p) v
-  installing_value answers kinds v (inl h) = absurd (subst IsNoValue (sym h.2) tt)
-  installing_value answers kinds v (inr h) = let same : h.0 ≡ v = cc in subst (ExportsTyped p.types answers kinds (program p)) same h.2
-
-  frame_reduces : (answers : AnswerTypes) (kinds : List TypeId) (given : Option Given) (store : Store) (n : ℕ) (e : Exp) → StoreTyped (running p.types) answers kinds store kinds → X answers kinds e
-      → Suits (running p.types) answers kinds given (reduce (head_at p.types) None store (Frame n e)) → KeepsFit (running p.types) I answers kinds (reduce (head_at p.types) given store (Frame n e))
-  frame_reduces answers kinds given store n e st h j =
-      either (running p.types) lawful answers kinds (λ x y. Suits (running p.types) answers kinds given x → KeepsFit (running p.types) I answers kinds y) e _ _ _ _
-      (λ v q i. (kinds, longer_self kinds, st, inr (v, refl, exported_value answers kinds v (subst (λ e. X answers kinds e) q h))))
-      (λ active i. frame_fits p.types X I answers kinds store n (λ longer f l k. inl (n, f, refl, k)) (reduce (head_at p.types) given store e)
-      (exporting_reduces answers kinds given store st e active h (suits_frame (running p.types) lawful answers kinds given store n (reduce (head_at p.types) None store e) i))) j
-
-  installing_reduces : (answers : AnswerTypes) (kinds : List TypeId) (given : Option Given) (store : Store) (e : Exp) → IsNoValue e → StoreTyped (running p.types) answers kinds store kinds → I answers kinds e
-      → Suits (running p.types) answers kinds given (reduce (head_at p.types) None store e) → KeepsFit (running p.types) I answers kinds (reduce (head_at p.types) given store e)
-  installing_reduces answers kinds given store e active st (inl h) =
-      subst (λ e. Suits (running p.types) answers kinds given (reduce (head_at p.types) None store e) → KeepsFit (running p.types) I answers kinds (reduce (head_at p.types) given store e)) (sym h.2)
-      (frame_reduces answers kinds given store h.0 h.1 st h.3)
-  installing_reduces answers kinds given store e active st (inr h) = absurd (subst IsNoValue h.1 active)
-
-  pub installing_grows : (answers more : AnswerTypes) (kinds longer : List TypeId) (e : Exp) → KnowsMore answers more → IsLonger kinds longer → I answers kinds e → I more longer e
-  installing_grows answers more kinds longer e k l (inl h) = inl (h.0, h.1, h.2, collecting_grows answers more kinds longer h.1 k l h.3)
-  installing_grows answers more kinds longer e k l (inr h) = inr (h.0, h.1, exports_grow p.types answers more k kinds longer l (program p) h.0 h.2)
-
-  pub installing_kept : IsKept (running p.types) I (AreExports p.types p)
-  installing_kept = record {
-    value = λ answers kinds v h. installing_value answers kinds v h;
-    grows = λ answers more kinds longer e k l h. installing_grows answers more kinds longer e k l h;
-    keeps = λ answers kinds given store e active st h i. installing_reduces answers kinds given store e active st h i;
+  pub exporting_kept : IsKept (running p.types) X (AreExports p.types p)
+  exporting_kept = record {
+    value = λ answers kinds v h. exported_value answers kinds v h;
+    grows = λ answers more kinds longer e k l h. collecting_grows answers more kinds longer e k l h;
+    keeps = λ answers kinds given store e active st h i. exporting_reduces answers kinds given store st e active h i;
   }
+
+  pub exports_kept_grow : (answers more : AnswerTypes) (kinds longer : List TypeId) (v : Value) → KnowsMore answers more → IsLonger kinds longer → AreExports p.types p answers kinds v → AreExports p.types p more longer v
+  exports_kept_grow answers more kinds longer v k l h = exports_grow p.types answers more k kinds longer l (program p) v h
+
+-- ---- a frame around what is kept
+
+module _ (types : List Slot) (lawful : IsLawful (running types).head) (P : Fitting Exp) (Q : Fitting Value) (kept : IsKept (running types) P Q)
+    (grow : (answers more : AnswerTypes) (kinds longer : List TypeId) (v : Value) → KnowsMore answers more → IsLonger kinds longer → Q answers kinds v → Q more longer v) where
+  abbrev I : Fitting Exp
+  I = IsFramed P Q
+
+  framed_value : (answers : AnswerTypes) (kinds : List TypeId) (v : Value) → I answers kinds (Val v) → Q answers kinds v
+  framed_value answers kinds v (inl h) = absurd (subst IsNoValue (sym h.2) tt)
+  framed_value answers kinds v (inr h) = let same : h.0 ≡ v = cc in subst (Q answers kinds) same h.2
+
+  frame_reduces : (answers : AnswerTypes) (kinds : List TypeId) (given : Option Given) (store : Store) (n : ℕ) (e : Exp) → StoreTyped (running types) answers kinds store kinds → P answers kinds e
+      → Suits (running types) answers kinds given (reduce (head_at types) None store (Frame n e)) → KeepsFit (running types) I answers kinds (reduce (head_at types) given store (Frame n e))
+  frame_reduces answers kinds given store n e st h j =
+      either (running types) lawful answers kinds (λ x y. Suits (running types) answers kinds given x → KeepsFit (running types) I answers kinds y) e _ _ _ _
+      (λ v q i. (kinds, longer_self kinds, st, inr (v, refl, kept.value answers kinds v (subst (λ e. P answers kinds e) q h))))
+      (λ active i. frame_fits types P I answers kinds store n (λ longer f l k. inl (n, f, refl, k)) (reduce (head_at types) given store e)
+      (kept.keeps answers kinds given store e active st h (suits_frame (running types) lawful answers kinds given store n (reduce (head_at types) None store e) i))) j
+
+  framed_reduces : (answers : AnswerTypes) (kinds : List TypeId) (given : Option Given) (store : Store) (e : Exp) → IsNoValue e → StoreTyped (running types) answers kinds store kinds → I answers kinds e
+      → Suits (running types) answers kinds given (reduce (head_at types) None store e) → KeepsFit (running types) I answers kinds (reduce (head_at types) given store e)
+  framed_reduces answers kinds given store e active st (inl h) =
+      subst (λ e. Suits (running types) answers kinds given (reduce (head_at types) None store e) → KeepsFit (running types) I answers kinds (reduce (head_at types) given store e)) (sym h.2)
+      (frame_reduces answers kinds given store h.0 h.1 st h.3)
+  framed_reduces answers kinds given store e active st (inr h) = absurd (subst IsNoValue h.1 active)
+
+  framed_grows : (answers more : AnswerTypes) (kinds longer : List TypeId) (e : Exp) → KnowsMore answers more → IsLonger kinds longer → I answers kinds e → I more longer e
+  framed_grows answers more kinds longer e k l (inl h) = inl (h.0, h.1, h.2, kept.grows answers more kinds longer h.1 k l h.3)
+  framed_grows answers more kinds longer e k l (inr h) = inr (h.0, h.1, grow answers more kinds longer h.0 k l h.2)
+
+  pub framed_kept : IsKept (running types) I Q
+  framed_kept = record {
+    value = λ answers kinds v h. framed_value answers kinds v h;
+    grows = λ answers more kinds longer e k l h. framed_grows answers more kinds longer e k l h;
+    keeps = λ answers kinds given store e active st h i. framed_reduces answers kinds given store e active st h i;
+  }
+
+-- ---- the frame of the declarations
+
+pub installing_kept : (p : Program) → IsLawful (running p.types).head → IsKept (running p.types) (IsInstalling p.types p) (AreExports p.types p)
+installing_kept p lawful = framed_kept p.types lawful (IsExporting p.types p) (AreExports p.types p) (exporting_kept p lawful) (exports_kept_grow p lawful)

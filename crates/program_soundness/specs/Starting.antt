@@ -36,6 +36,10 @@ AllSoon head NoExp [] = Unit {0}
 AllSoon head (AnExp e es) (v ∷ vs) = Soon head e v × AllSoon head es vs
 AllSoon head _ _ = ⊥
 
+-- in a frame, or behind it
+abbrev pub IsFramed : Fitting Exp → Fitting Value → Fitting Exp
+IsFramed P Q answers kinds e = ((n : ℕ) × (body : Exp) × (e ≡ Frame n body) × P answers kinds body) ⊎ ((v : Value) × (e ≡ Val v) × Q answers kinds v)
+
 module _ (types : List Slot) (p : Program) where
   -- a tuple that is made of what an actor exports
   abbrev pub IsCollecting : Fitting Exp
@@ -48,12 +52,11 @@ module _ (types : List Slot) (p : Program) where
   abbrev pub IsExporting : Fitting Exp
   IsExporting answers kinds e = Declared types answers kinds p (closed []) e ⊎ IsCollecting answers kinds e ⊎ IsExported answers kinds e
 
-  -- in the frame of the declarations, or behind it
-  abbrev pub IsInstalling : Fitting Exp
-  IsInstalling answers kinds e = ((n : ℕ) × (body : Exp) × (e ≡ Frame n body) × IsExporting answers kinds body) ⊎ IsExported answers kinds e
-
   abbrev pub AreExports : Fitting Value
   AreExports answers kinds v = ExportsTyped types answers kinds (program p) v
+
+  abbrev pub IsInstalling : Fitting Exp
+  IsInstalling = IsFramed IsExporting AreExports
 
 -- ---- behind an upgrade: the hook, and then the exports
 
@@ -66,11 +69,15 @@ hook_switch = Switch (Do (action.Operate (op.Project 2)) (one (Name 0))) (hook_c
 
 module _ (types : List Slot) (p : Program) (answers : AnswerTypes) (kinds : List TypeId) where
   -- the declarations, the look for the hook, the hook that was found, its call, its body, and the exports
-  pub data IsUpgrading (e : Exp) : Type 0 where
-    Refused : e ≡ Do (action.Operate (op.Fail incompatible)) NoExp → IsUpgrading e
-    Begun : (d : Exp) → e ≡ let_in Bind d hook_switch → IsInstalling types p answers kinds d → IsUpgrading e
-    Looks : (v : Value) → e ≡ Switch (Do (action.Operate (op.Project 2)) (one (Val v))) (hook_cases (Val v) (Val v)) → ExportsTyped types answers kinds (program p) v → IsUpgrading e
-    Found : (v x : Value) → e ≡ Switch (Val x) (hook_cases (Val v) (Val v)) → ExportsTyped types answers kinds (program p) v → HookTyped types answers kinds x → IsUpgrading e
-    Calls : (v f : Value) → e ≡ then (Do action.Call (one (Val f))) (Val v) → ExportsTyped types answers kinds (program p) v → IsFunctionAs types answers kinds AHook f → IsUpgrading e
-    Runs : (v : Value) (b : Exp) → e ≡ then b (Val v) → ExportsTyped types answers kinds (program p) v → GivesResults (running types) [] answers kinds b → IsUpgrading e
-    Ends : (v : Value) → e ≡ Val v → ExportsTyped types answers kinds (program p) v → IsUpgrading e
+  pub data IsHooking (e : Exp) : Type 0 where
+    Begun : (d : Exp) → e ≡ let_in Bind d hook_switch → IsExporting types p answers kinds d → IsHooking e
+    Looks : (v : Value) → e ≡ Switch (Do (action.Operate (op.Project 2)) (one (Val v))) (hook_cases (Val v) (Val v)) → ExportsTyped types answers kinds (program p) v → IsHooking e
+    Found : (v x : Value) → e ≡ Switch (Val x) (hook_cases (Val v) (Val v)) → ExportsTyped types answers kinds (program p) v → HookTyped types answers kinds x → IsHooking e
+    Calls : (v f : Value) → e ≡ then (Do action.Call (one (Val f))) (Val v) → ExportsTyped types answers kinds (program p) v → IsFunctionAs types answers kinds AHook f → IsHooking e
+    Runs : (v : Value) (b : Exp) → e ≡ then b (Val v) → ExportsTyped types answers kinds (program p) v → GivesResults (running types) [] answers kinds b → IsHooking e
+    Ends : (v : Value) → e ≡ Val v → ExportsTyped types answers kinds (program p) v → IsHooking e
+
+-- in the frame of the declarations, where what was kept fits
+abbrev pub IsUpgrading : List Slot → Program → Fitting Exp
+IsUpgrading types p answers kinds e =
+    (e ≡ Do (action.Operate (op.Fail incompatible)) NoExp) ⊎ IsFramed (λ answers kinds e. IsHooking types p answers kinds e) (AreExports types p) answers kinds e

@@ -16,4 +16,4 @@ quiet = record { types = λ n. None; may_call = false }
 -- a start that is an installation, or one behind an upgrade
 abbrev pub IsStarting : List Slot → Program → Option Kept → Fitting Exp
 IsStarting types p None = IsInstalling types p
-IsStarting types p (Some kept) = λ answers kinds e. IsUpgrading types p answers kinds e
+IsStarting types p (Some kept) = IsUpgrading types p

@@ -26,11 +26,10 @@ ghost use Rattle.mo_meaning.specs.Acts.{Given};
 ghost use Rattle.mo_meaning.specs.Actor.{meaning, surroundings};
 ghost use Rattle.mo_meaning.specs.Bodies.{body_execution, body_run, results_of};
 ghost use Rattle.mo_meaning.specs.Coding.{Coding, IsFaithful, Types};
-ghost use Rattle.mo_meaning.specs.Configurations.{Configuration, End, Ended, Returns, Surroundings, beginning};
-ghost use Rattle.mo_meaning.specs.Exports.{before_upgrade};
+ghost use Rattle.mo_meaning.specs.Configurations.{Configuration, End, Ended, Returns, Surroundings};
 ghost use Rattle.mo_meaning.specs.Kernel.{Body, Fields, Kept, kernel};
 ghost use Rattle.mo_meaning.specs.Messages.{message_of, read_values};
-ghost use Rattle.mo_meaning.specs.Saving.{alone, hook, save};
+ghost use Rattle.mo_meaning.specs.Saving.{alone, saving_from, save};
 ghost use Rattle.mo_meaning.specs.Starting.{start, start_from};
 ghost use Rattle.mo_meaning.specs.Turns.{turns};
 ghost use Rattle.mo_soundness.specs.Keeps.{HasEach};
@@ -93,9 +92,9 @@ pub fn starts_end_as_typed()
 /// And so does the hook before an upgrade, over what the actor was: it returns or traps, too. Where it returns, each stable variable
 /// has a value of its type to keep.
 pub fn savings_end_as_typed()
-    ensures ends { (coding : Coding) (p : Program) → WellTyped p → (own : Bytes) (answers : AnswerTypes) (kinds : List TypeId) (fields : Fields) (n : ℕ) → FieldsTyped p.types (program p) answers kinds fields → EndsFit (alone coding p.types own) (GivesResults (running p.types) []) (AreResults (running p.types) []) (still answers) kinds (turns (alone coding p.types own) n (beginning 0 fields.cells (hook (before_upgrade fields.exports)))) }
-    ensures settles { (coding : Coding) (p : Program) → WellTyped p → (own : Bytes) (answers : AnswerTypes) (kinds : List TypeId) (fields : Fields) (n : ℕ) (c : Configuration) (end : End) → FieldsTyped p.types (program p) answers kinds fields → turns (alone coding p.types own) n (beginning 0 fields.cells (hook (before_upgrade fields.exports))) ≡ Ended c end → ReturnsOrTraps end }
-    ensures saved { (coding : Coding) (p : Program) → WellTyped p → (own : Bytes) (answers : AnswerTypes) (kinds : List TypeId) (fields : Fields) (n : ℕ) (c : Configuration) (v : Value) → FieldsTyped p.types (program p) answers kinds fields → turns (alone coding p.types own) n (beginning 0 fields.cells (hook (before_upgrade fields.exports))) ≡ Ended c (Returns v) → IsSomething (save coding p.types (program p) own fields n).completion }
+    ensures ends { (coding : Coding) (p : Program) → WellTyped p → (own : Bytes) (answers : AnswerTypes) (kinds : List TypeId) (fields : Fields) (n : ℕ) → FieldsTyped p.types (program p) answers kinds fields → EndsFit (alone coding p.types own) (GivesResults (running p.types) []) (AreResults (running p.types) []) (still answers) kinds (turns (alone coding p.types own) n (saving_from (program p) fields)) }
+    ensures settles { (coding : Coding) (p : Program) → WellTyped p → (own : Bytes) (answers : AnswerTypes) (kinds : List TypeId) (fields : Fields) (n : ℕ) (c : Configuration) (end : End) → FieldsTyped p.types (program p) answers kinds fields → turns (alone coding p.types own) n (saving_from (program p) fields) ≡ Ended c end → ReturnsOrTraps end }
+    ensures saved { (coding : Coding) (p : Program) → WellTyped p → (own : Bytes) (answers : AnswerTypes) (kinds : List TypeId) (fields : Fields) (n : ℕ) (c : Configuration) (v : Value) → FieldsTyped p.types (program p) answers kinds fields → turns (alone coding p.types own) n (saving_from (program p) fields) ≡ Ended c (Returns v) → IsSomething (save coding p.types (program p) own fields n).completion }
 {}
 
 /// The state of an actor whose programs are typed stays typed in every event, wherever executions are exhausted. So it is typed in

@@ -4,9 +4,7 @@ use Rattle.typed_tree.specs.ProgramView.{program}
 use Rattle.program_soundness.proofs.Turns.{run_quiet}
 use Rattle.program_soundness.specs.Results.{GivesResults, AreResults}
 use Rattle.mo_soundness.specs.Running.{still}
-use Rattle.mo_meaning.specs.Configurations.{beginning}
-use Rattle.mo_meaning.specs.Exports.{before_upgrade}
-use Rattle.mo_meaning.specs.Saving.{alone, hook}
+use Rattle.mo_meaning.specs.Saving.{alone, saving_from}
 use Rattle.mo_meaning.specs.Turns.{turns}
 use Rattle.std.proofs.Common.{[], refl}
 use Rattle.program_soundness.proofs.laws.savings_end_as_typed.Goals as goal
@@ -22,5 +20,5 @@ returns-clause-saved c = λ coding p w own answers kinds fields n c v typed q.
 
 pub returns-clause-settles : goal.returns-clause-settles
 returns-clause-settles c = λ coding p w own answers kinds fields n c end typed q.
-    run_quiet (alone coding p.types own) (GivesResults (running p.types) []) (AreResults (running p.types) []) (turns (alone coding p.types own) n (beginning 0 fields.cells (hook (before_upgrade fields.exports)))) c end (still answers) kinds refl
+    run_quiet (alone coding p.types own) (GivesResults (running p.types) []) (AreResults (running p.types) []) (turns (alone coding p.types own) n (saving_from (program p) fields)) c end (still answers) kinds refl
     (hook_run_ends coding p.types (program p) (lawful_types p.types w.types w.basics) w.types own answers kinds fields typed n) q
