@@ -1,5 +1,6 @@
 //! The parts of a type that is met, by its head.
-ghost use Rattle.std.specs.Prelude.{◌≡◌, Some, IfOk, map, slice_get};
+ghost use Rattle.std.specs.Prelude.{◌≡◌, Some, IfOk, map, nat_eq, slice_get};
+ghost use Rattle.std.specs.Cmp.Lexicographic.{pointwise};
 ghost use Rattle.std.specs.Option.{option_copied};
 ghost use Rattle.mo_types.specs.Sub.{Each, find};
 ghost use Rattle.met_types.specs.States.{IsNodeOf, IsReached, Kept};
@@ -51,12 +52,33 @@ fn terms_of(alloc: Global, types: &Types, ids: &[TypeId]) -> Result<Vec<TermId>,
     Ok(made)
 }
 
+fn is_same(one: &[u8], other: &[u8]) -> bool
+    ensures { result ≡ pointwise nat_eq one.now other.now }
+{
+    one == other
+}
+
+/// Whether two labels are the same. A search asks it of each tag of a type. Labels that differ mostly differ in length or in the last byte,
+/// which is seen in a few steps; what takes more stands in a function of its own, so that those need not prepare for it.
+fn is_label(one: &[u8], other: &[u8]) -> bool
+    ensures { result ≡ pointwise nat_eq one.now other.now }
+{
+    let size = one.len();
+    if size != other.len() {
+        return false;
+    }
+    if size > 0 && one[size - 1] != other[size - 1] {
+        return false;
+    }
+    is_same(one, other)
+}
+
 /// The first field of the label.
 fn field_of<'a>(fields: &'a [Field], label: &[u8]) -> Option<&'a Field>
     ensures { option_copied result ≡ find label.now fields.now }
 {
     for field in fields {
-        if field.label.as_slice() == label {
+        if is_label(field.label.as_slice(), label) {
             return Some(field);
         }
     }
