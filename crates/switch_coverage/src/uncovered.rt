@@ -13,11 +13,12 @@ ghost use Rattle.switch_coverage.specs.Found.{patterns_in, switch_in, switches_i
 ghost use Rattle.switch_coverage.specs.Uncovered.{AreUncovered, Fits, Says, Selects, all_missing, with_next};
 
 use crate::walk::{Found, switches};
-use mo_coverage::{Cover, Shape, covers};
+use mo_coverage::{Cover, Shape};
 use mo_num::Memory;
 use mo_types::{TypeGraph, TypeId};
 use pattern_coverage::types_with_values;
 use std::alloc::Global;
+use tag_coverage::covers;
 use typed_tree::{Case, Program, TypedPattern};
 
 /// A `switch` that misses a value.

@@ -1,0 +1,4 @@
+pub mod Alternatives
+pub mod Payloads
+pub mod Options
+pub mod Within
