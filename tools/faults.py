@@ -1,4 +1,4 @@
-"""Runs `mo check` on the examples of docs/FAULTS.md and compares the lines; and sees that each fault that the front end names stands there.
+"""Runs `mo check` and `mo explain` on the examples of docs/FAULTS.md and compares the lines and the meanings; and sees that each fault that the front end names stands there.
 
 Below a heading `### GROUP.NAME` stands an example, as a block of `motoko` or, in the form of the contents of cases.py, of `json`, and then
 the line that is wanted, indented by four spaces.
@@ -28,7 +28,7 @@ def named():
 
 
 def examples():
-    """Returns each heading with its source and its line, where they are there."""
+    """Returns each heading with its source, its line and its meaning, where they are there."""
     text = (TOP / "docs" / "FAULTS.md").read_text("utf-8")
     made = {}
     for part in re.split(r"^### ", text, flags=re.M)[1:]:
@@ -36,7 +36,7 @@ def examples():
         block = re.search(r"^```(motoko|json)\n(.*?)\n```$", rest, re.M | re.S)
         line = re.search(r"^    (refused .*)$", rest, re.M)
         source = block and (block[2].encode("utf-8") if block[1] == "motoko" else cases.contents(json.loads(block[2])))
-        made[name] = (source, line and line[1])
+        made[name] = (source, line and line[1], rest.strip().split("\n\n")[0].replace("\n", " "))
     return made
 
 
@@ -46,7 +46,7 @@ def main():
     bad += [f"{name} is no fault" for name in sorted(set(found) - named() - NOT_OF_CHECK)]
     program = TOP / "crates" / "mo_cli" / "out" / "mo_cli"
     ran = 0
-    for name, (source, line) in found.items():
+    for name, (source, line, meaning) in found.items():
         if name in NOT_OF_CHECK:
             continue
         if source is None or line is None:
@@ -54,10 +54,16 @@ def main():
             continue
         with tempfile.TemporaryDirectory() as room:
             (pathlib.Path(room) / "a.mo").write_bytes(source)
-            end = subprocess.run([program, "check", "a.mo"], cwd=room, stdin=subprocess.DEVNULL, capture_output=True, timeout=cases.SECONDS)
+            end, told = (subprocess.run([program, command, "a.mo"], cwd=room, stdin=subprocess.DEVNULL, capture_output=True, timeout=cases.SECONDS)
+                         for command in ("check", "explain"))
         ran += 1
         if (end.returncode, end.stdout, end.stderr) != (1, b"", f"{line}\n".encode("utf-8")):
             bad.append(f"{name}: status {end.returncode}, {end.stderr!r}, and not {line!r}")
+        where = line.split(" ")
+        first, last = f"{where[3]} {where[2]}\n", f"\n{meaning}\n"
+        text = told.stdout.decode("utf-8", "replace")
+        if told.returncode != 1 or told.stderr or not text.startswith(first) or not text.endswith(last):
+            bad.append(f"{name}: mo explain says {text!r}")
     for line in bad:
         print(line)
     print(f"faults: {ran} examples, {len(bad)} not as wanted")

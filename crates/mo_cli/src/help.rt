@@ -15,6 +15,11 @@ pub const HELP: &str =
       line and column; of an accepted one it prints a line uncovered LINE:COLUMN for each
       switch that misses a value
       for example: mo check examples/ledger.mo
+  mo explain SRC
+      of a source that is refused it prints the line of the fault, with a mark under its place,
+      and what the fault means; of an accepted one each switch that misses a value, and a case
+      that it misses
+      for example: mo explain examples/ledger.mo
   mo play [options] SCRIPT MODULE..
       plays the script in the file SCRIPT on the modules in the files MODULE.., and prints
       the transcript

@@ -5,7 +5,8 @@ mod help;
 
 use crate::help::{HELP, VERSION};
 use mo_command::{Status, run_mo, tell};
-use outer::{RealFiles, RealSink};
+use mo_explain::explain;
+use outer::{RealFiles, RealSink, Sink};
 use std::alloc::{AllocError, Global};
 use std::io::ErrorKind;
 use std::process::ExitCode;
@@ -55,6 +56,28 @@ fn notice(words: &[String]) -> Option<&'static str> {
     }
 }
 
+// The source of `explain SRC`.
+fn explained(words: &[String]) -> Option<&str> {
+    match words {
+        [command, source] => {
+            if command.as_str() == "explain" {
+                Some(source.as_str())
+            } else {
+                None
+            }
+        }
+        _ => None,
+    }
+}
+
+// Tells how an explanation ends, where that is not said on the output.
+fn told<E: Sink>(alloc: Global, status: Status, err: &mut E) -> Status {
+    match status {
+        Status::Done | Status::Refused { .. } => status,
+        _ => tell(alloc, status, err),
+    }
+}
+
 fn main(rt: HostRuntime) -> ExitCode {
     let alloc = rt.alloc();
     let mut err = RealSink::new(rt.stderr());
@@ -70,6 +93,13 @@ fn main(rt: HostRuntime) -> ExitCode {
     }
     let mut files = RealFiles::new(&rt);
     let mut out = RealSink::new(io::writer(&rt));
-    let status = run_mo(alloc, words.as_slice(), &mut files, &mut out, &mut err);
+    let status = match explained(words.as_slice()) {
+        Some(source) => told(
+            alloc,
+            explain(alloc, source, &mut files, &mut out),
+            &mut err,
+        ),
+        None => run_mo(alloc, words.as_slice(), &mut files, &mut out, &mut err),
+    };
     ExitCode::from(status.code())
 }

@@ -1,0 +1,4 @@
+pub mod Shown
+pub mod Refusals
+pub mod Misses
+pub mod Explained
