@@ -2,7 +2,8 @@
 
 A file is an object of
   about    where its answers come from
-  program  "mo", the compiler (or "probe", the program mo_probe, whose commands are library calls)
+  program  "mo", the compiler, "probe", the program mo_probe, whose commands are library calls, or "player", the program
+           meaning_player, which plays scripts by the meaning of programs
   words    the words of the command line, for each case that has none of its own
   cases    a list of cases
 
@@ -36,7 +37,7 @@ import tempfile
 import modules
 
 TOP = pathlib.Path(__file__).resolve().parent.parent
-PROGRAMS = {"mo": "mo_cli", "probe": "mo_probe"}
+PROGRAMS = {"mo": "mo_cli", "probe": "mo_probe", "player": "meaning_player"}
 SECONDS = 60
 
 
