@@ -50,6 +50,7 @@ use Rattle.elaboration_steps.proofs.Growth.{names_stay}
 use Rattle.elaboration_steps.proofs.Paths.{nothing_more}
 use Rattle.elaboration_runs.specs.Waiting.{SameState}
 use Rattle.elaboration_actors.specs.Bodies.{Follows, GivenBelongs, FieldsBelong, EffectsBelong, SameMethod}
+use Rattle.elaboration_actors.specs.Saving.{SavingBelongs}
 use Rattle.elaboration_actors.specs.Actors.{SameMessages, ReadBelongs, StatesBelong, CallsBelongTogether, WaitsBelong, HeldBelong, globals, context_with, MethodsBelong, Begun, Related, Weighs, SoundActor, StartsAndSaves, ActorsKeep}
 use Rattle.elaboration_actors.specs.Laws.{SameSurroundings}
 use Rattle.elaboration_actors.proofs.Calls.{MaybeGiven, values_same, Each, each_of, held_of, as_many, states_same, each_at, each_set, each_arrived, each_owner, each_left, each_grows, calls_alike, endings_alike}
@@ -199,12 +200,27 @@ module _ (times : ℕ) (one : 1 ≤ times) (coding : Coding) (types : Types) (p 
       methods_by (λ e m. SameMethod core (context_with coding types p core messages own names) known exports e m) (λ e m. SameMethod core (context_with coding types p core messages own names) (known ++ more) exports e m)
       (method_from 0 query name p.methods) (core_actor.method_from 0 query name core.methods) (h query name) (λ e m i same. method_as names known more exports (no_calls 0) e m same)
 
+  saving_stays : (known more : List Known) (all : List core_value.Value) (exports : Value) → SavingBelongs p core known all exports → SavingBelongs p core (known ++ more) all exports
+  saving_stays known more all exports b = record {
+    places = b.places;
+    env = b.env;
+    cells = b.cells;
+    names_belong = names_stay core.groups known more all b.places b.env [] b.names_belong;
+    as_many = b.as_many;
+    cells_are = b.cells_are;
+    code = b.code;
+    nodes = b.nodes;
+    save = b.save;
+    hook = b.hook;
+  }
+
   -- ---- what an execution leaves
 
   related_left : (a : Actor machine) (b : Actor L) (owner weight other : ℕ) (x : Effects machine) (y : Effects L) (exports : Value) (names : List core_value.Value) (known : List Known) → a.table.first ≡ b.table.first → length b.activations ≡ length a.activations
-      → E names known a.table.first a.table.calls b.table.calls a.activations b.activations → MethodsBelong coding types p core messages own known exports names → Left exports names known x y → Safe (committed_state (committed owner weight x a))
+      → E names known a.table.first a.table.calls b.table.calls a.activations b.activations → MethodsBelong coding types p core messages own known exports names → SavingBelongs p core known (All names) exports → Left exports names known x y
+      → Safe (committed_state (committed owner weight x a))
       → R (committed_state (committed owner weight x a)) (committed_state (committed owner other y b))
-  related_left a b owner weight other x y exports names known e l each with_methods left safe =
+  related_left a b owner weight other x y exports names known e l each with_methods with_saving left safe =
       let calls = a.table.calls ++ map (open_call owner) x.calls in
       let news = b.table.calls ++ map (open_call owner) y.calls in
       let xs = slice_set a.activations owner (activation_after x.ending (activation_at a.activations owner)) in
@@ -221,6 +237,9 @@ module _ (times : ℕ) (one : 1 ≤ times) (coding : Coding) (types : Types) (p 
         methods = subst (λ ns. MethodsBelong coding types p core messages own left.known' x.store.exports ns) (sym left.fields.names_are)
             (subst (λ v. MethodsBelong coding types p core messages own left.known' v names) (sym left.exports_are)
             (subst (λ ks. MethodsBelong coding types p core messages own ks exports names) (sym (left.grows.1)) (methods_stay names known (left.grows.0) exports with_methods)));
+        saving = subst (λ ns. SavingBelongs p core left.known' (All ns) x.store.exports) (sym left.fields.names_are)
+            (subst (λ v. SavingBelongs p core left.known' (All names) v) (sym left.exports_are)
+            (subst (λ ks. SavingBelongs p core ks (All names) exports) (sym (left.grows.1)) (saving_stays known (left.grows.0) (All names) exports with_saving)));
         calls = subst (λ ns. HeldBelong core own ns left.known' (held_calls a.table.first calls xs) (held_calls b.table.first news ys)) (sym left.fields.names_are)
             (subst (λ n. HeldBelong core own names left.known' (held_calls a.table.first calls xs) (held_calls n news ys)) e held);
       }
@@ -244,7 +263,7 @@ module _ (times : ℕ) (one : 1 ≤ times) (coding : Coding) (types : Types) (p 
         c.0,
         c.1,
         out_as (λ x y s t. (y ≤ times * x) × Begun coding types p core messages own s t) (λ x y s t. Weighs times x y × ((made : ℕ) → R (fresh_state {L = machine} s made) (fresh_state {L = L} t made))) pays_old first 0 (P.start own kept) c.0 r c.1 c.2
-            (λ prints weight s other t i z. (z.0, λ made. record { safe = sound.begun kept prints weight s i made; known = z.1.known; fields = z.1.fields; methods = z.1.methods; calls = tt })),
+            (λ prints weight s other t i z. (z.0, λ made. record { safe = sound.begun kept prints weight s i made; known = z.1.known; fields = z.1.fields; methods = z.1.methods; saving = z.1.saving; calls = tt })),
       )
 
   saving_follows : (number : ℕ) → Allowed (event.Upgrade number) → (a : Actor machine) (b : Actor L) → Alike a b → Follows times (λ (k : Kept) (l : Kept). l ≡ k) (saving P own a) (saving Q own b)
@@ -253,7 +272,7 @@ module _ (times : ℕ) (one : 1 ≤ times) (coding : Coding) (types : Types) (p 
       (by (nat_eq (open_count a.table) 0))
     where
       by : (o : Bool) → Follows times (λ (k : Kept) (l : Kept). l ≡ k) (cond o (P.save own a.store) (trapping (codes "outstanding calls"))) (cond o (Q.save own b.store) (trapping (codes "outstanding calls")))
-      by true = starting.saves number allowed a al.related.safe al.related.known b.store al.related.fields al.related.methods
+      by true = starting.saves number allowed a al.related.safe al.related.known b.store al.related.fields al.related.saving
       by false = trapping_follows times one (λ (k : Kept) (l : Kept). l ≡ k) (codes "outstanding calls")
 
   -- ---- calls
@@ -299,7 +318,7 @@ module _ (times : ℕ) (one : 1 ≤ times) (coding : Coding) (types : Types) (p 
     arrived_left weight other x y w left safe =
         effects_alike (arrived a) (arrived b) (length a.activations) weight other x y a.store.exports Own-names K0 w left
         (related_left (arrived a) (arrived b) (length a.activations) weight other x y a.store.exports Own-names K0 al.first dead_length
-        (each_arrived core own Own-names K0 a.table.first a.table.calls b.table.calls a.activations b.activations (eachs a b al)) al.related.methods left safe)
+        (each_arrived core own Own-names K0 a.table.first a.table.calls b.table.calls a.activations b.activations (eachs a b al)) al.related.methods al.related.saving left safe)
 
     abbrev Asks : ℕ → ℕ → Effects machine → Effects L → Type 0
     Asks x y s t = AlikeEndings {S = machine} {T = L} s.ending t.ending
@@ -434,7 +453,7 @@ module _ (times : ℕ) (one : 1 ≤ times) (coding : Coding) (types : Types) (p 
         filled_left weight other x y w left safe =
             effects_alike (filled number value a) (filled number value' b) c.owner weight other x y a.store.exports Own-names K0 w left
             (related_left (filled number value a) (filled number value' b) c.owner weight other x y a.store.exports Own-names K0 al.first (lengths a.activations b.activations al.activations)
-            (subst (λ n. E Own-names K0 a.table.first (set_from a.table.first a.table.calls number (Answered value)) (set_from n b.table.calls number (Answered value')) a.activations b.activations) al.first (table_filled (Answered value) (Answered value') refl filled_state)) al.related.methods left safe)
+            (subst (λ n. E Own-names K0 a.table.first (set_from a.table.first a.table.calls number (Answered value)) (set_from n b.table.calls number (Answered value')) a.activations b.activations) al.first (table_filled (Answered value) (Answered value') refl filled_state)) al.related.methods al.related.saving left safe)
 
         answer : (r : Result (Effects L)) → HasResult pays_new memory b.charged (answering Q own b number d received) r → Comes Answers-alike (answering P own a number c received) r
         answer r h =
@@ -456,12 +475,13 @@ module _ (times : ℕ) (one : 1 ≤ times) (coding : Coding) (types : Types) (p 
           (by Old (waiting_on number (activation_at b.activations c.owner)) (found.1 is_open) (sound.trapped a al.related.safe number c (there, is_open)))
         where
           by : (x : Option Waiting) (y : Option (Pending core_machine.Waiting)) → WaitsBelong core own Own-names K0 x y → Safe (committed_state (broken_by number c.owner a x)) → R (committed_state (broken_by number c.owner a x)) (committed_state (broken_by number c.owner b y))
-          by None None w safe = record { safe = safe; known = K0; fields = al.related.fields; methods = al.related.methods; calls = broken_with Lost Lost refl tt a.activations b.activations (table_filled Lost Lost refl tt) }
+          by None None w safe = record { safe = safe; known = K0; fields = al.related.fields; methods = al.related.methods; saving = al.related.saving; calls = broken_with Lost Lost refl tt a.activations b.activations (table_filled Lost Lost refl tt) }
           by (Some x) (Some y) w safe = record {
             safe = safe;
             known = K0;
             fields = al.related.fields;
             methods = al.related.methods;
+            saving = al.related.saving;
             calls =
                 broken_with (Answered None) (Answered None) refl tt (slice_set a.activations c.owner IsDead) (slice_set b.activations c.owner IsDead)
                 (each_owner core own Own-names K0 a.table.first (set_from a.table.first a.table.calls number (Answered None)) (set_from a.table.first b.table.calls number (Answered None)) a.activations b.activations c.owner IsDead IsDead (lengths a.activations b.activations al.activations) (λ m. tt) (table_filled (Answered None) (Answered None) refl tt));

@@ -126,7 +126,7 @@ module _ {K : Type 0} (coding : Messages K) (program : Core) (own : Bytes) (tabl
         quiet = λ i. absurd (changes i);
       }
 
-      module _ (c : Configuration) (shows : Shows program context nodes c true w d prints) where
+      module _ (c : Configuration) (shows : Shows program context nodes c w d prints) where
         -- with a further cost at its end
         with_cost : (x y : ℕ) (levels : ℕ) (end : configuration.End) (completion : Option (Completion (Effects (core_language core_machine.Waiting K)))) → w + x ≤ times * (c.weight + x) → y ≡ x
             → CompletionsBelong times Both (effects f results (weighed (record { weight = x; levels = levels }) c) end) completion
@@ -135,7 +135,7 @@ module _ {K : Type 0} (coding : Messages K) (program : Core) (own : Bytes) (tabl
           begun = all_shown c.prints prints shows.prints_are;
           whole = in_whole completion;
           weight = omega (arith, light, e);
-          depth = let z : d ≤ c.depth = shows.shallow refl in omega (arith, z);
+          depth = let z : d ≤ c.depth = shows.shallow in omega (arith, z);
           completion = belongs;
         }
           where
@@ -149,7 +149,7 @@ module _ {K : Type 0} (coding : Messages K) (program : Core) (own : Bytes) (tabl
           begun = all_shown c.prints prints shows.prints_are;
           whole = in_whole completion;
           weight = omega (arith, light);
-          depth = let z : d ≤ c.depth = shows.shallow refl in omega (arith, z);
+          depth = let z : d ≤ c.depth = shows.shallow in omega (arith, z);
           completion = belongs;
         }
           where
@@ -207,11 +207,11 @@ module _ {K : Type 0} (coding : Messages K) (program : Core) (own : Bytes) (tabl
         rejects_belong leaves (Made (Error code text) NoValue) (shape.Function h) value whole light = absurd value
         rejects_belong leaves error u value whole light = absurd (whole c refl)
 
-      paid : (c : Configuration) → Shows program context nodes c true w d prints → 2 * c.weight + owed c.stack ≤ times * c.weight → w ≤ times * c.weight
+      paid : (c : Configuration) → Shows program context nodes c w d prints → 2 * c.weight + owed c.stack ≤ times * c.weight → w ≤ times * c.weight
       paid c shows light = let z : w ≤ 2 * c.weight + owed c.stack = shows.light in omega (arith, z, light)
 
       -- where the run is over, the progress of both is alike
-      pub ends_belong : (r : Run) (end : End core_machine.Waiting) → Finish program context nodes known' true w d prints world r end → ((c' : Configuration) → r ≡ Ended c' configuration.Breaks → ⊥) → 2 * (reached r).weight + owed (reached r).stack ≤ times * (reached r).weight → P (X r) (Y (Over w d prints world end))
+      pub ends_belong : (r : Run) (end : End core_machine.Waiting) → Finish program context nodes known' w d prints world r end → ((c' : Configuration) → r ≡ Ended c' configuration.Breaks → ⊥) → 2 * (reached r).weight + owed (reached r).stack ≤ times * (reached r).weight → P (X r) (Y (Over w d prints world end))
       ends_belong r end (Returned c v u shows leaves value) whole light =
           subst (λ o. P (X (Ended c (configuration.Returns v))) (core_actor.replied M coding program g results w d prints world (core_actor.unpacked results u) o)) (sym (same.bytes known' results (unpacked results v) (core_actor.unpacked results u) al))
           (replies_belong c shows leaves (paid c shows light) (unpacked results v) (core_actor.unpacked results u) al (message s results (unpacked results v)))

@@ -1,5 +1,5 @@
 -- A method of both actors: an execution of Core's shows no more than that of the typed one, and ends as it does.
-use Rattle.std.proofs.Common.{◌≡◌, ◌⊎◌, inl, inr, ℕ, zero, suc, ◌+◌, ◌≤◌, true, false, List, [], ◌∷◌, length, Option, Some, None, refl, sym, ap, ◌∙◌, subst, arith}
+use Rattle.std.proofs.Common.{◌≡◌, ◌⊎◌, inl, inr, ℕ, zero, suc, ◌+◌, ◌*◌, ◌≤◌, List, [], ◌∷◌, length, Some, None, refl, sym, ap, ◌∙◌, subst, arith}
 use Rattle.mo_types.specs.declared.node.TypeId.{TypeId}
 use Rattle.mo_types.specs.Calls.{CallTable}
 use Rattle.mo_types.specs.Graph.{head_at}
@@ -22,44 +22,36 @@ use Rattle.core_ir.specs.Actor.{MethodEntry, core_language}
 use Rattle.core_ir.specs.Actor as core_actor
 use Rattle.typed_tree.specs.declared.action.Action.TheVariants as action
 use Rattle.typed_tree.specs.Language as language
-use Rattle.typed_tree.specs.Language.{Functions, NoFunction, AFunction}
 use Rattle.typed_tree.specs.Patterns.{Found, matches_all}
 use Rattle.mo_meaning.specs.Bodies as meaning
+use Rattle.mo_meaning.specs.Calls.{failing}
 use Rattle.mo_meaning.specs.Configurations.{Surroundings}
+use Rattle.mo_meaning.specs.Depth.{levels_of_body}
 use Rattle.mo_meaning.specs.Kernel.{Entry, Kept}
+use Rattle.mo_meaning.specs.Matching.{pattern_failed}
 use Rattle.mo_machine.specs.Values.{Value, Closure, Code, load, load_list, shapes_list, values_list}
 use Rattle.mo_machine.specs.ActorLanguage.{machine, Fields, Enters}
 use Rattle.mo_machine.specs.Bodies.{beginning, entering, execution_of}
 use Rattle.mo_machine.specs.Calls as calls
-use Rattle.mo_machine.specs.Configurations.{Configuration, Run, Still, moved}
+use Rattle.mo_machine.specs.Configurations.{Configuration, Traps, Run, Still, Ended, moved, weighed}
 use Rattle.mo_machine.specs.Environments.{extended, with_group}
 use Rattle.mo_machine.specs.Frames as machine_frame
 use Rattle.mo_machine.specs.Frames.{Returning, Ready}
 use Rattle.mo_machine.specs.Turns.{turn, then_steps, step, steps, turns}
 use Rattle.elaboration_values.specs.Belonging.{Known, EachBelongs}
 use Rattle.elaboration_steps.specs.Stacks.{WorldBelongs}
-use Rattle.elaboration_steps.specs.Follows.{is_found, parameters_match}
 use Rattle.elaboration_steps.proofs.Paths.{nothing_more}
 use Rattle.elaboration_runs.specs.Calling.{Surrounded}
-use Rattle.elaboration_runs.specs.Entering.{Function, function_in, Entered, paid}
-use Rattle.elaboration_runs.specs.Ending.{Covers}
+use Rattle.elaboration_runs.specs.Entering.{Function, Entered, paid}
+use Rattle.elaboration_runs.specs.Ending.{Trapped, Finishes, Covers}
 use Rattle.elaboration_runs.specs.Waiting.{Accounted}
 use Rattle.elaboration_runs.specs.Whole.{Reaches}
-use Rattle.elaboration_runs.proofs.Ending.{early, covers}
+use Rattle.elaboration_runs.proofs.Ending.{early, ended, covers}
 use Rattle.elaboration_runs.proofs.Entering.{entries}
 use Rattle.elaboration_actors.specs.Bodies.{Sound, Follows, FieldsBelong, EffectsBelong, SameMethod, Takes}
 use Rattle.elaboration_actors.specs.Laws.{MethodsFollow}
 use Rattle.elaboration_actors.proofs.Methods.{two_ways, X, Y, P, shown, by_turns}
 use Rattle.elaboration_actors.proofs.Turns.{turns_for}
-
-abbrev function_or : Function → Option Function → Function
-function_or d None = d
-function_or d (Some f) = f
-
-parameters_there : (vs : List Value) (fns : Functions) (n : ℕ) (f : Function) → function_in fns n ≡ Some f → parameters_match fns n vs ≡ is_found (matches_all f.parameters (shapes_list vs))
-parameters_there vs NoFunction n f e = absurd (let z : None ≡ Some f = e in cc)
-parameters_there vs (AFunction how nodes ps body fns) zero f e = ap (λ (g : Function). is_found (matches_all g.parameters (shapes_list vs))) (ap (function_or f) e)
-parameters_there vs (AFunction how nodes ps body fns) (suc n) f e = parameters_there vs fns n f e
 
 module _ {K : Type 0} (coding : Messages K) (program : Core) (own : Bytes) (table : CallTable (List TypeId) worlds.Given) (names : List core_value.Value) (times : ℕ) (one : 1 ≤ times) (s : Surroundings) where
   abbrev context : Context
@@ -105,9 +97,6 @@ module _ {K : Type 0} (coding : Messages K) (program : Core) (own : Bytes) (tabl
     abbrev At : ℕ → Stand State core_machine.Waiting
     At k = run (core_machine.core_machine program) context k paid0 0 [] world (at program context fn.nodes (Eval e.method.body.expression taken) [])
 
-    matched : is_found (matches_all fn.parameters (shapes_list given)) ≡ true
-    matched = sym (parameters_there given e.group e.which fn e.same.there) ∙ (sound0.serves 0 c0 refl).1
-
     abbrev C : Run → Stand State core_machine.Waiting → Type 0
     C = Covers program context fn.nodes known
 
@@ -146,8 +135,41 @@ module _ {K : Type 0} (coding : Messages K) (program : Core) (own : Bytes) (tabl
               (λ j c' i. sound0.serves (suc j) c' (ap (then_steps s (steps s j)) entered ∙ i)) (λ j c' i. sound0.whole (suc j) c' (ap (then_steps s (steps s j)) entered ∙ i)) rest in
               (suc (h.0), subst (λ r. C r (At k)) (sym (ap (then_steps s (steps s (h.0))) entered)) (subst (λ y. C (steps s (h.0) c1) y) (sym (ap At is ∙ reaches.by rest)) (h.1)))
 
+    -- the arguments do not match: both trap
+    module _ (o : Entered program context known f.cells world caller e.group e.which e.env fn given taken e.method.body None) where
+      abbrev c2 : Configuration
+      c2 = weighed (failing (calls.entering fn.nodes fn.parameters (shapes_list given)) fn.nodes) c0
+
+      fails : step s c0 ≡ Ended c2 (Traps pattern_failed)
+      fails = ap (turn s c0) (o.0)
+
+      over : Finishes program context fn.nodes known paid0 0 [] world (Eval e.method.body.expression taken) [] (Ended c2 (Traps pattern_failed))
+      over = record {
+        steps = o.1.steps;
+        weight' = o.1.weight';
+        depth' = o.1.depth';
+        prints' = o.1.prints';
+        known' = known;
+        world' = world;
+        end = execution.Traps pattern_failed;
+        by = o.1.by;
+        grows = ([], nothing_more known);
+        finish = Trapped c2 pattern_failed (record {
+          prints_are = o.1.shown;
+          light = let z : o.1.weight' ≤ 2 * (2 + length caller + (calls.entering fn.nodes fn.parameters (shapes_list given) + length pattern_failed)) = o.1.light in omega (arith, z);
+          shallow = let z : o.1.depth' ≤ 16 * levels_of_body fn.nodes = o.1.shallow in omega (arith, z);
+        });
+      }
+
+      failed : (k : ℕ) → (m : ℕ) × C (steps s m c0) (At k)
+      failed k = (
+        1,
+        subst (λ r. C r (At k)) (sym (ap (then_steps s (steps s 0)) fails))
+            (ended program context fn.nodes s head_is (same fn.nodes) (accounted fn.nodes) k known paid0 0 [] world (Eval e.method.body.expression taken) [] c2 (Traps pattern_failed) over (At k) refl),
+      )
+
     all_covered : (o : Found Code) → matches_all fn.parameters (shapes_list given) ≡ o → (k : ℕ) → (m : ℕ) × C (steps s m c0) (At k)
-    all_covered None is k = absurd (let z : false ≡ true = sym (ap is_found is) ∙ matched in cc)
+    all_covered None is k = failed (subst (λ o. Entered program context known f.cells world caller e.group e.which e.env fn given taken e.method.body o) is (both.1)) k
     all_covered (Some us) is k = covered us (subst (λ o. Entered program context known f.cells world caller e.group e.which e.env fn given taken e.method.body o) is (both.1)) k
 
     abbrev Q : Progress (Effects machine) → Progress (Effects (core_language core_machine.Waiting K)) → Type 0

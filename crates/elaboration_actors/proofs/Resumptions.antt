@@ -89,10 +89,10 @@ module _ {S W : Type 0} where
     heavier_step n w d bodies extra prints (execution.Ends cost out world end) = ap (λ i. Over i (max d (deep_with bodies cost)) (prints ++ out) world end) (let z : w + (extra + cost.weight) ≡ w + extra + cost.weight = omega arith in z)
 
 module _ (program : Core) (context : Context) (nodes : ℕ) (known : List Known) where
-  shows_lower : (c : Configuration) (w d e : ℕ) (prints : List Bytes) → e ≤ d → Shows program context nodes c true w d prints → Shows program context nodes c true w e prints
-  shows_lower c w d e prints h shows = record { prints_are = shows.prints_are; light = shows.light; shallow = λ t. let z : d ≤ c.depth = shows.shallow t in omega (arith, z, h) }
+  shows_lower : (c : Configuration) (w d e : ℕ) (prints : List Bytes) → e ≤ d → Shows program context nodes c w d prints → Shows program context nodes c w e prints
+  shows_lower c w d e prints h shows = record { prints_are = shows.prints_are; light = shows.light; shallow = let z : d ≤ c.depth = shows.shallow in omega (arith, z, h) }
 
-  finish_lower : (known' : List Known) (w d e : ℕ) (prints : List Bytes) (world : World) (r : Run) (end : execution.End core_machine.Waiting) → e ≤ d → Finish program context nodes known' true w d prints world r end → Finish program context nodes known' true w e prints world r end
+  finish_lower : (known' : List Known) (w d e : ℕ) (prints : List Bytes) (world : World) (r : Run) (end : execution.End core_machine.Waiting) → e ≤ d → Finish program context nodes known' w d prints world r end → Finish program context nodes known' w e prints world r end
   finish_lower known' w d e prints world r end h (Returned c v u shows leaves value) = Returned c v u (shows_lower c w d e prints h shows) leaves value
   finish_lower known' w d e prints world r end h (Thrown c error u shows leaves value) = Thrown c error u (shows_lower c w d e prints h shows) leaves value
   finish_lower known' w d e prints world r end h (Trapped c text shows) = Trapped c text (shows_lower c w d e prints h shows)

@@ -1,10 +1,8 @@
 -- What elaborated programs do over a list of events, the typed programs do.
-use Rattle.std.proofs.Common.{◌≡◌, ℕ, zero, suc, ◌+◌, ◌*◌, ◌≤◌, Bool, true, List, [], ◌∷◌, map, refl, sym, ap, ◌∙◌, subst, arith}
+use Rattle.std.proofs.Common.{◌≡◌, ℕ, ◌+◌, ◌*◌, ◌≤◌, Bool, true, List, [], ◌∷◌, map, refl, sym, ap, subst, arith}
 use Rattle.std.proofs.Math.Nat.{mul-add, mul-le-mul_right, le_of_mul-le-mul_left, mul_left_comm}
 use Rattle.std.specs.List.{AllByRecursion}
 use Rattle.play_script.specs.declared.event.Event.{Event}
-use Rattle.play_script.specs.declared.item.Item.{Item}
-use Rattle.play_script.specs.declared.item.Word.{Word}
 use Rattle.play_script.specs.declared.item.Word.TheVariants as word
 use Rattle.mo_actor.specs.Measures.{Measure, Spent, Unmeasured}
 use Rattle.mo_actor.specs.Passes.{CommittedState}
@@ -16,9 +14,9 @@ use Rattle.core_actors.proofs.OneOfEach.{carry_each}
 use Rattle.mo_meaning.specs.Coding.{Coding}
 use Rattle.mo_meaning.specs.Kernel.{Kept}
 use Rattle.mo_machine.specs.ActorLanguage.{machine}
-use Rattle.mo_machine.specs.States.{TypedActor, by_states, by_meaning}
+use Rattle.mo_machine.specs.States.{by_states}
 use Rattle.mo_machine.proofs.ActorRuns.{run_alike}
-use Rattle.elaboration_actors.specs.Actors.{Related, SameKept, Weighs}
+use Rattle.elaboration_actors.specs.Actors.{Related, Weighs}
 use Rattle.elaboration_actors.specs.Runs.{Version, elaborated_actor, typed_actor, Qualifies, RunsBy, RunsKeep, MeasuredRunsKeep}
 use Rattle.elaboration_actors.proofs.Actors.{keeps}
 

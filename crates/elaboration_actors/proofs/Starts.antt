@@ -380,6 +380,7 @@ module _ (coding : Coding) (types : Types) (p : Program) (core : Core) (messages
     known = known;
     fields = record { cells = r.cells; groups = groups_with known few (globals core own g.names) further core.groups g.groups r.groups; names_are = refl };
     methods = found_alike p core (context_with coding types p core messages own g.names) known f.exports r.fns r.env r.bodies (places_around p r.fns r.places) around r.methods r.enough r.code r.functions;
+    saving = r.saving around;
   }
 
 pub starts_end : StartsEnd

@@ -49,6 +49,7 @@ use Rattle.elaboration_steps.specs.Follows.{owed}
 use Rattle.elaboration_runs.specs.Entering.{Function, function_in}
 use Rattle.elaboration_runs.specs.Resuming.{endings}
 use Rattle.elaboration_actors.specs.Bodies.{Sound, Follows, GivenBelongs, WaitingBelongs, FieldsBelong, SameMethod, continued}
+use Rattle.elaboration_actors.specs.Saving.{SavingBelongs}
 
 -- ---- messages of both are the same
 
@@ -113,12 +114,14 @@ module _ (coding : Coding) (types : Types) (p : Program) (core : Core) (messages
     pub known : List Known
     pub fields : FieldsBelong core g.names (globals core own g.names) known f g
     pub methods : MethodsBelong known f.exports g.names
+    pub saving : SavingBelongs p core known (globals core own g.names) f.exports
 
   pub record Related (Safe : CommittedState machine → Type 0) (s : CommittedState machine) (t : CommittedState (core_language core_machine.Waiting Kept)) : Type 0 where
     pub safe : Safe s
     pub known : List Known
     pub fields : FieldsBelong core t.store.names (globals core own t.store.names) known s.store t.store
     pub methods : MethodsBelong known s.store.exports t.store.names
+    pub saving : SavingBelongs p core known (globals core own t.store.names) s.store.exports
     pub calls : HeldBelong core own t.store.names known s.calls t.calls
 
   abbrev pub SameKept : (Kept → Type 0) → Kept → Kept → Type 0
@@ -166,7 +169,7 @@ module _ (times : ℕ) (coding : Coding) (types : Types) (p : Program) (first : 
     pub record StartsAndSaves : Type 0 where
       pub installs : Follows times (Begun coding types p core messages own) (typed.start own None) (made.start own None)
       pub starts : (kept : Kept) → Fits kept → (vs : List (Option language.Value)) → all_kept (all_taken coding kept.types types kept.variables p.stable) ≡ Some vs → Follows times (Begun coding types p core messages own) (typed.start own (Some kept)) (made.start own (Some kept))
-      pub saves : (number : ℕ) → Allowed (event.Upgrade number) → (a : Actor machine) → Safe (committed_state a) → (known : List Known) (g : core_actor.Fields) → FieldsBelong core g.names (globals core own g.names) known a.store g → MethodsBelong coding types p core messages own known a.store.exports g.names
+      pub saves : (number : ℕ) → Allowed (event.Upgrade number) → (a : Actor machine) → Safe (committed_state a) → (known : List Known) (g : core_actor.Fields) → FieldsBelong core g.names (globals core own g.names) known a.store g → SavingBelongs p core known (globals core own g.names) a.store.exports
           → Follows times (λ (k : Kept) (l : Kept). l ≡ k) (typed.save own a.store) (made.save own g)
 
     -- each execution of the elaborated actor is one of the typed actor

@@ -34,7 +34,7 @@ use Rattle.elaboration.specs.Elaboration.{number_of_parameters}
 use Rattle.elaboration.specs.Meeting.{MeetEach}
 use Rattle.elaboration_values.specs.Belonging.{Known, Belongs, EachBelongs}
 use Rattle.elaboration_steps.specs.Stacks.{Labels, StackBelongs, GroupsBelong}
-use Rattle.elaboration_steps.specs.Follows.{owed, enters_at}
+use Rattle.elaboration_steps.specs.Follows.{owed}
 use Rattle.elaboration_runs.specs.Entering.{Function, SameBody}
 use Rattle.elaboration_runs.specs.Whole.{Serves}
 
@@ -51,10 +51,9 @@ abbrev pub reached : Run → Configuration
 reached (Still c) = c
 reached (Ended c end) = c
 
--- an execution from here on: values stand where values of their types do, the parameters of each call match, it does not break, and few labels and
--- handlers are open
+-- an execution from here on: values stand where values of their types do, it does not break, and few labels and handlers are open
 pub record Sound (times : ℕ) (s : Surroundings) (c : Configuration) : Type 0 where
-  pub serves : (j : ℕ) (c' : Configuration) → steps s j c ≡ Still c' → Serves c' × (enters_at c'.focus ≡ true)
+  pub serves : (j : ℕ) (c' : Configuration) → steps s j c ≡ Still c' → Serves c'
   pub whole : (j : ℕ) (c' : Configuration) → steps s j c ≡ Ended c' Breaks → ⊥
   pub light : (j : ℕ) → 2 * (reached (steps s j c)).weight + owed (reached (steps s j c)).stack ≤ times * (reached (steps s j c)).weight
 

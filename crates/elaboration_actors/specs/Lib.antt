@@ -1,4 +1,5 @@
 pub mod Bodies
+pub mod Saving
 pub mod Laws
 pub mod Actors
 pub mod Runs

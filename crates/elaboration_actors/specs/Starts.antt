@@ -18,7 +18,7 @@ use Rattle.mo_meaning.specs.Coding.{Types, Coding}
 use Rattle.mo_meaning.specs.Kernel.{Kept}
 use Rattle.mo_meaning.specs.Starting.{all_taken, all_kept}
 use Rattle.mo_machine.specs.ActorLanguage.{Fields}
-use Rattle.mo_machine.specs.Environments.{Environment}
+use Rattle.mo_machine.specs.Environments.{Environment, with_group}
 use Rattle.mo_machine.specs.Exports.{function_at}
 use Rattle.mo_machine.specs.States.{with_states}
 use Rattle.mo_machine.specs.Starting.{kept_value, outer_values}
@@ -32,8 +32,9 @@ use Rattle.elaboration.specs.Programs.{start_scope, outside, numbered, firsts, m
 use Rattle.elaboration_forms.specs.Elaborates.{HasGroups, Elaborates, Stands}
 use Rattle.elaboration_values.specs.Belonging.{Known, EachBelongs, EnvironmentBelongs}
 use Rattle.elaboration_steps.specs.Stacks.{GroupsBelong}
-use Rattle.elaboration_actors.specs.Actors.{SameMessages, Begun}
+use Rattle.elaboration_actors.specs.Actors.{SameMessages, Begun, globals}
 use Rattle.elaboration_actors.specs.Bodies.{Follows}
+use Rattle.elaboration_actors.specs.Saving.{SavingBelongs}
 
 -- the values of the names that have a place in Core, the nearest first
 abbrev pub ReadNames : List core_value.Value → List Place → List core_value.Value → Type 0
@@ -77,6 +78,7 @@ module _ (p : Program) (core : Core) (own : Bytes) where
     pub enough : length p.methods ≤ count fns
     pub code : MethodBodies core.groups (places_around p fns places) (firsts (length p.methods) fns) bodies
     pub functions : (i : ℕ) → suc i ≤ length p.methods → function_at f.exports (Some i) ≡ Closure fns i env
+    pub saving : EnvironmentBelongs known (globals core own g.names) (places_around p fns places) (with_group fns env) [] → SavingBelongs p core known (globals core own g.names) f.exports
 
 -- what was kept of each stable variable, if it is of its type
 module _ (p : Program) (core : Core) (messages : Messages Kept) where

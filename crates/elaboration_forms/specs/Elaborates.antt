@@ -136,3 +136,10 @@ abbrev mutual
   pub StandFunctions : Scope → Functions → Type 0
   StandFunctions s NoFunction = Unit {0}
   StandFunctions s (AFunction how nodes ps body fns) = Stands false (behind (on_parameters ps s) (in_body (number_of_parameters ps) s)) body × StandFunctions s fns
+
+-- the declarations of an actor stand, each in the scope of those before it; the last group has its own scope
+abbrev pub DeclarationsStand : Scope → Exp → Type 0
+DeclarationsStand s (Switch e (ACase p b NoCase)) = Stands false s e × DeclarationsStand (behind (on_nearest p s) s) b
+DeclarationsStand s (source.Group fns (source.Do a (source.AnExp functions (source.AnExp before (source.AnExp after (source.AnExp cells es)))))) = Unit {0}
+DeclarationsStand s (source.Group fns b) = StandFunctions (under (count fns) s) fns × DeclarationsStand (under (count fns) s) b
+DeclarationsStand s e = ⊥

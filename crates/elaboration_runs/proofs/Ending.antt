@@ -19,7 +19,7 @@ use Rattle.mo_machine.specs.Configurations.{Configuration, Run, Still, Ended, En
 use Rattle.mo_machine.specs.Turns.{rejects, then_steps, step, steps}
 use Rattle.elaboration.proofs.Coming.{assoc}
 use Rattle.elaboration_values.specs.Belonging.{Known}
-use Rattle.elaboration_steps.specs.Follows.{owed, enters_at}
+use Rattle.elaboration_steps.specs.Follows.{owed}
 use Rattle.elaboration_steps.proofs.Paths as paths
 use Rattle.elaboration_runs.specs.Together.{Together}
 use Rattle.elaboration_runs.specs.Calling.{Surrounded}
@@ -82,7 +82,7 @@ module _ {S W : Type 0} where
 
 module _ (program : Core) (context : Context) (nodes : ℕ) (s : Surroundings) (head_is : context.head ≡ head_at s.types) (same : Surrounded program context nodes s) (accounted : Accounted program context nodes s) where
   abbrev Served : Configuration → Type 0
-  Served c = (j : ℕ) (c' : Configuration) → steps s j c ≡ Still c' → Serves c' × (enters_at c'.focus ≡ true)
+  Served c = (j : ℕ) (c' : Configuration) → steps s j c ≡ Still c' → Serves c'
 
   abbrev Whole-run : Configuration → Type 0
   Whole-run c = (j : ℕ) (c' : Configuration) → steps s j c ≡ Ended c' configuration.Breaks → ⊥
@@ -90,7 +90,7 @@ module _ (program : Core) (context : Context) (nodes : ℕ) (s : Surroundings) (
   -- the execution has ended after so many steps: so has the run
   abbrev IsDone : (known : List Known) (w d : ℕ) (prints : List Bytes) (world : World) (f : Focus) (k : List Frame) → Run → Type 0
   IsDone known w d prints world f k (Still c') = Unit {0}
-  IsDone known w d prints world f k (Ended c' end) = Finishes program context nodes known w d prints world f k true (Ended c' end)
+  IsDone known w d prints world f k (Ended c' end) = Finishes program context nodes known w d prints world f k (Ended c' end)
 
   joined : (known : List Known) (w d : ℕ) (prints : List Bytes) (world : World) (f : Focus) (k : List Frame) (c1 : Configuration) (a : Reaches program context nodes known w d prints world f k c1) (r : Run)
       → IsDone a.known' a.weight' a.depth' a.prints' a.world' a.f' a.k' r → IsDone known w d prints world f k r
@@ -108,9 +108,9 @@ module _ (program : Core) (context : Context) (nodes : ℕ) (s : Surroundings) (
     finish = b.finish;
   }
 
-  done_as : (known : List Known) (w d : ℕ) (prints : List Bytes) (world : World) (f : Focus) (k : List Frame) (enters : Bool) (r : Run) → enters ≡ true → Finishes program context nodes known w d prints world f k enters r → IsDone known w d prints world f k r
-  done_as known w d prints world f k enters (Still c') e o = tt
-  done_as known w d prints world f k enters (Ended c' end) e o = subst (λ b. Finishes program context nodes known w d prints world f k b (Ended c' end)) e o
+  done_as : (known : List Known) (w d : ℕ) (prints : List Bytes) (world : World) (f : Focus) (k : List Frame) (r : Run) → Finishes program context nodes known w d prints world f k r → IsDone known w d prints world f k r
+  done_as known w d prints world f k (Still c') o = tt
+  done_as known w d prints world f k (Ended c' end) o = o
 
   abbrev Done : ℕ → Type 0
   Done n =
@@ -118,13 +118,13 @@ module _ (program : Core) (context : Context) (nodes : ℕ) (s : Surroundings) (
       → Served c → Whole-run c → IsDone known w d prints world f k (steps s n c)
 
   done_after : (n : ℕ) → Done n → Done (suc n)
-  done_after n go held known c w d prints world f k t calls serves whole = by (step s c) refl (one.outcome program context nodes s head_is same accounted held known c w d prints world f k t calls (serves 0 c refl).0)
+  done_after n go held known c w d prints world f k t calls serves whole = by (step s c) refl (one.outcome program context nodes s head_is same accounted held known c w d prints world f k t calls (serves 0 c refl))
     where
       at : (r : Run) → IsDone known w d prints world f k r → ((c' : Configuration) → r ≡ Still c' → ⊥) → IsDone known w d prints world f k (then_steps s (steps s n) r)
       at (Still c') o none = absurd (none c' refl)
       at (Ended c' end) o none = o
 
-      by : (r : Run) → step s c ≡ r → one.Outcome program context nodes s head_is same accounted held known c w d prints world f k t calls (serves 0 c refl).0 r → IsDone known w d prints world f k (then_steps s (steps s n) (step s c))
+      by : (r : Run) → step s c ≡ r → one.Outcome program context nodes s head_is same accounted held known c w d prints world f k t calls (serves 0 c refl) r → IsDone known w d prints world f k (then_steps s (steps s n) (step s c))
       by r is (one.IsOn c1 x) =
           subst (λ i. IsDone known w d prints world f k (then_steps s (steps s n) i)) (sym is)
           (joined known w d prints world f k c1 (x.0) (steps s n c1)
@@ -132,33 +132,33 @@ module _ (program : Core) (context : Context) (nodes : ℕ) (s : Surroundings) (
           (λ j c2 i. serves (suc j) c2 (ap (then_steps s (steps s j)) is ∙ i)) (λ j c2 i. whole (suc j) c2 (ap (then_steps s (steps s j)) is ∙ i))))
       by r is (one.IsOff r' o) =
           subst (λ i. IsDone known w d prints world f k (then_steps s (steps s n) i)) (sym is)
-          (at r' (done_as known w d prints world f k (enters_at c.focus) r' ((serves 0 c refl).1) o)
-          (λ c' e. no_end program context nodes s head_is same accounted o.known' (enters_at c.focus) o.weight' o.depth' o.prints' o.world' r' o.end c' o.finish e))
+          (at r' (done_as known w d prints world f k r' o)
+          (λ c' e. no_end program context nodes s head_is same accounted o.known' o.weight' o.depth' o.prints' o.world' r' o.end c' o.finish e))
       by r is (one.IsBroken c1) = absurd (whole 1 c1 (ap (then_steps s (steps s 0)) is))
 
   done : (n : ℕ) → Done n
   done zero held known c w d prints world f k t calls serves whole = tt
   done (suc n) held known c w d prints world f k t calls serves whole = done_after n (done n) held known c w d prints world f k t calls serves whole
 
-  shown_by : (known : List Known) (w d : ℕ) (prints : List Bytes) (w1 d1 : ℕ) (p1 : List Bytes) → IsPrefix p1 prints → w1 ≤ w → d1 ≤ d → (c c' : Configuration) → c ≡ c' → Shows program context nodes c true w d prints
+  shown_by : (known : List Known) (w d : ℕ) (prints : List Bytes) (w1 d1 : ℕ) (p1 : List Bytes) → IsPrefix p1 prints → w1 ≤ w → d1 ≤ d → (c c' : Configuration) → c ≡ c' → Shows program context nodes c w d prints
       → IsPrefix p1 c'.prints × (w1 ≤ 2 * c'.weight + owed c'.stack) × (d1 ≤ c'.depth)
   shown_by known w d prints w1 d1 p1 p a b c c' e shows =
       subst (λ (c : Configuration). IsPrefix p1 c.prints × (w1 ≤ 2 * c.weight + owed c.stack) × (d1 ≤ c.depth)) e
-      (subst (λ ps. IsPrefix p1 ps) shows.prints_are p, let z : w ≤ 2 * c.weight + owed c.stack = shows.light in omega (arith, z, a), let z : d ≤ c.depth = shows.shallow refl in omega (arith, z, b))
+      (subst (λ ps. IsPrefix p1 ps) shows.prints_are p, let z : w ≤ 2 * c.weight + owed c.stack = shows.light in omega (arith, z, a), let z : d ≤ c.depth = shows.shallow in omega (arith, z, b))
 
   -- the error's text is paid for
-  thrown_by : (known : List Known) (w d : ℕ) (prints : List Bytes) (w1 d1 : ℕ) (p1 : List Bytes) → IsPrefix p1 prints → w1 ≤ w → d1 ≤ d → (c : Configuration) (error : Value) (c' : Configuration) (end : End) → rejects c error ≡ Ended c' end → Shows program context nodes c true w d prints
+  thrown_by : (known : List Known) (w d : ℕ) (prints : List Bytes) (w1 d1 : ℕ) (p1 : List Bytes) → IsPrefix p1 prints → w1 ≤ w → d1 ≤ d → (c : Configuration) (error : Value) (c' : Configuration) (end : End) → rejects c error ≡ Ended c' end → Shows program context nodes c w d prints
       → IsPrefix p1 c'.prints × (w1 ≤ 2 * c'.weight + owed c'.stack) × (d1 ≤ c'.depth)
   thrown_by known w d prints w1 d1 p1 p a b c (Made (Error code text) NoValue) c' end is shows = by (nat_lt most_bytes (length text)) is
     where
       c2 : Configuration
       c2 = weighed (weighing (length text)) c
 
-      wider : Shows program context nodes c2 true w d prints
+      wider : Shows program context nodes c2 w d prints
       wider = record {
         prints_are = shows.prints_are;
         light = let z : w ≤ 2 * c.weight + owed c.stack = shows.light in omega (arith, z);
-        shallow = λ e. let z : d ≤ c.depth = shows.shallow e in omega (arith, z);
+        shallow = let z : d ≤ c.depth = shows.shallow in omega (arith, z);
       }
 
       by : (long : Bool) → cond long (Ended c2 (configuration.Traps too_long)) (Ended c2 (configuration.Responds (Rejects 4 text))) ≡ Ended c' end → IsPrefix p1 c'.prints × (w1 ≤ 2 * c'.weight + owed c'.stack) × (d1 ≤ c'.depth)
@@ -167,7 +167,7 @@ module _ (program : Core) (context : Context) (nodes : ℕ) (s : Surroundings) (
   thrown_by known w d prints w1 d1 p1 p a b c _ c' end is shows = shown_by known w d prints w1 d1 p1 p a b c c' (ap (configuration_of program context nodes) is) shows
 
   shown : (known : List Known) (c' : Configuration) (end : End) (known' : List Known) (w d : ℕ) (prints : List Bytes) (world : World) (last : execution.End Waiting) (w1 d1 : ℕ) (p1 : List Bytes) → IsPrefix p1 prints → w1 ≤ w → d1 ≤ d
-      → (r : Run) → r ≡ Ended c' end → Finish program context nodes known' true w d prints world r last → IsPrefix p1 c'.prints × (w1 ≤ 2 * c'.weight + owed c'.stack) × (d1 ≤ c'.depth)
+      → (r : Run) → r ≡ Ended c' end → Finish program context nodes known' w d prints world r last → IsPrefix p1 c'.prints × (w1 ≤ 2 * c'.weight + owed c'.stack) × (d1 ≤ c'.depth)
   shown known c' end known' w d prints world last w1 d1 p1 p a b r is (Returned c v u shows leaves value) = shown_by known w d prints w1 d1 p1 p a b c c' (ap (configuration_of program context nodes) is) shows
   shown known c' end known' w d prints world last w1 d1 p1 p a b r is (Thrown c error u shows leaves value) = thrown_by known w d prints w1 d1 p1 p a b c error c' end is shows
   shown known c' end known' w d prints world last w1 d1 p1 p a b r is (Trapped c text shows) = shown_by known w d prints w1 d1 p1 p a b c c' (ap (configuration_of program context nodes) is) shows
@@ -209,29 +209,29 @@ module _ (program : Core) (context : Context) (nodes : ℕ) (s : Surroundings) (
       let q : At (n + (u.0)) w d prints world f k ≡ Over w1 d1 p1 o1 end = subst (λ x. Under x (At (n + (u.0)) w d prints world f k)) is b in
       let z : execution.Still a.weight' a.depth' a.prints' a.world' (at program context nodes a.f' a.k') ≡ Over w1 d1 p1 o1 end = sym e ∙ q in absurd cc
 
+  -- by a run that is over as the execution is
+  pub ended : (n : ℕ) (known : List Known) (w d : ℕ) (prints : List Bytes) (world : World) (f : Focus) (k : List Frame) (c' : Configuration) (end : End) (a : Finishes program context nodes known w d prints world f k (Ended c' end)) → (x : Stand State Waiting) → At n w d prints world f k ≡ x → Covers program context nodes known (Ended c' end) x
+  ended n known w d prints world f k c' end a (execution.Still w1 d1 p1 o1 s1) is =
+      let b : Under (At n w d prints world f k) (At (n + a.steps) w d prints world f k) = below (core_machine program) context n a.steps w d prints world (at program context nodes f k) in
+      let e : At (n + a.steps) w d prints world f k ≡ Over a.weight' a.depth' a.prints' a.world' a.end = ap (λ i. At i w d prints world f k) (let z : n + a.steps ≡ a.steps + n = omega arith in z) ∙ a.by n in
+      let q : Under (execution.Still w1 d1 p1 o1 s1) (Over a.weight' a.depth' a.prints' a.world' a.end) = subst (λ y. Under (execution.Still w1 d1 p1 o1 s1) y) e (subst (λ x. Under x (At (n + a.steps) w d prints world f k)) is b) in
+      shown known c' end a.known' a.weight' a.depth' a.prints' a.world' a.end w1 d1 p1 (q.0) (q.1) (q.2) (Ended c' end) refl a.finish
+  ended n known w d prints world f k c' end a (Over w1 d1 p1 o1 last) is =
+      let b : Under (At n w d prints world f k) (At (n + a.steps) w d prints world f k) = below (core_machine program) context n a.steps w d prints world (at program context nodes f k) in
+      let e : At (n + a.steps) w d prints world f k ≡ Over a.weight' a.depth' a.prints' a.world' a.end = ap (λ i. At i w d prints world f k) (let z : n + a.steps ≡ a.steps + n = omega arith in z) ∙ a.by n in
+      let q : At (n + a.steps) w d prints world f k ≡ Over w1 d1 p1 o1 last = subst (λ x. Under x (At (n + a.steps) w d prints world f k)) is b in
+      subst (λ x. Covers program context nodes known (Ended c' end) x) (sym e ∙ q) (a.known', a.grows, a.finish)
+
   covered : (n held : ℕ) (known : List Known) (c : Configuration) (w d : ℕ) (prints : List Bytes) (world : World) (f : Focus) (k : List Frame) → Together program context nodes held known c w d prints world f k → SameCalls c.calls world.requests
       → Served c → Whole-run c → (m : ℕ) × Covers program context nodes known (steps s m c) (At n w d prints world f k)
-  covered n held known c w d prints world f k t calls serves whole = from (goes_on program context nodes s head_is same accounted n held known c w d prints world f k t calls (λ j c' e. (serves j c' e).0))
+  covered n held known c w d prints world f k t calls serves whole = from (goes_on program context nodes s head_is same accounted n held known c w d prints world f k t calls serves)
     where
-      -- by the run that is over
-      ended : (c' : Configuration) (end : End) (a : Finishes program context nodes known w d prints world f k true (Ended c' end)) → (x : Stand State Waiting) → At n w d prints world f k ≡ x → Covers program context nodes known (Ended c' end) x
-      ended c' end a (execution.Still w1 d1 p1 o1 s1) is =
-          let b : Under (At n w d prints world f k) (At (n + a.steps) w d prints world f k) = below (core_machine program) context n a.steps w d prints world (at program context nodes f k) in
-          let e : At (n + a.steps) w d prints world f k ≡ Over a.weight' a.depth' a.prints' a.world' a.end = ap (λ i. At i w d prints world f k) (let z : n + a.steps ≡ a.steps + n = omega arith in z) ∙ a.by n in
-          let q : Under (execution.Still w1 d1 p1 o1 s1) (Over a.weight' a.depth' a.prints' a.world' a.end) = subst (λ y. Under (execution.Still w1 d1 p1 o1 s1) y) e (subst (λ x. Under x (At (n + a.steps) w d prints world f k)) is b) in
-          shown known c' end a.known' a.weight' a.depth' a.prints' a.world' a.end w1 d1 p1 (q.0) (q.1) (q.2) (Ended c' end) refl a.finish
-      ended c' end a (Over w1 d1 p1 o1 last) is =
-          let b : Under (At n w d prints world f k) (At (n + a.steps) w d prints world f k) = below (core_machine program) context n a.steps w d prints world (at program context nodes f k) in
-          let e : At (n + a.steps) w d prints world f k ≡ Over a.weight' a.depth' a.prints' a.world' a.end = ap (λ i. At i w d prints world f k) (let z : n + a.steps ≡ a.steps + n = omega arith in z) ∙ a.by n in
-          let q : At (n + a.steps) w d prints world f k ≡ Over w1 d1 p1 o1 last = subst (λ x. Under x (At (n + a.steps) w d prints world f k)) is b in
-          subst (λ x. Covers program context nodes known (Ended c' end) x) (sym e ∙ q) (a.known', a.grows, a.finish)
-
       from : (m : ℕ) × HasPassed program context nodes s n known w d prints world f k (steps s m c) → (m : ℕ) × Covers program context nodes known (steps s m c) (At n w d prints world f k)
       from (m, p) = (m, by (steps s m c) p (done m held known c w d prints world f k t calls serves whole))
         where
           by : (r : Run) → HasPassed program context nodes s n known w d prints world f k r → IsDone known w d prints world f k r → Covers program context nodes known r (At n w d prints world f k)
           by (Still c') p o = early n known w d prints world f k c' (p.0) (p.1) (At n w d prints world f k) refl
-          by (Ended c' end) p o = ended c' end o (At n w d prints world f k) refl
+          by (Ended c' end) p o = ended n known w d prints world f k c' end o (At n w d prints world f k) refl
 
 pub covers : (program : Core) (context : Context) (nodes : ℕ) → ExecutionsCover program context nodes
 covers program context nodes s head_is same accounted held known c w d prints world f k t calls serves whole n = covered program context nodes s head_is same accounted n held known c w d prints world f k t calls serves whole

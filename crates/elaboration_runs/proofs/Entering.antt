@@ -1,5 +1,7 @@
 -- Methods are entered alike.
 use Rattle.std.proofs.Common.{◌≡◌, ℕ, zero, suc, ◌+◌, ◌*◌, ◌≤◌, true, List, [], ◌∷◌, length, Option, Some, None, refl, sym, ap, ◌∙◌, subst, arith}
+use Rattle.std.specs.Int.{div_ceil}
+use Rattle.std.proofs.lemmas.Grind.{div_ceil_times}
 use Rattle.std.specs.Prelude.{max, cond}
 use Rattle.std.proofs.lemmas.Bool.{eq-eqb}
 use Rattle.mo_values.specs.Costs.{weighing}
@@ -32,7 +34,7 @@ use Rattle.elaboration_steps.specs.Follows.{Begins}
 use Rattle.elaboration_steps.specs.Running.{least, Runs}
 use Rattle.elaboration_steps.proofs.Beginning as beginning
 use Rattle.elaboration_steps.proofs.Running.{ways}
-use Rattle.elaboration_steps.proofs.StateDepth.{deep_within}
+use Rattle.elaboration_steps.proofs.StateDepth.{comes_level, deep_within}
 use Rattle.elaboration_steps.proofs.Values.{as_many}
 use Rattle.elaboration_runs.specs.Entering.{Function, function_in, SameBody, paid, Entered, EntriesFollow}
 use Rattle.elaboration_runs.proofs.Waiting.{leads, Ending, ending}
@@ -89,6 +91,11 @@ module _ (program : Core) (context : Context) (known : List Known) (store : Stor
           by = u.by;
           shown = u.shown;
           light = let z : u.weight' ≤ P + (d.0) + (1 + length pattern_failed) = u.heavy in let y : d.0 ≤ 2 * weight_of_all f.parameters (shapes_list vs) = d.5 in omega (arith, z, y);
+          shallow =
+              let z : u.depth' ≤ max 0 (max (16 + f.nodes + 0) (16 + f.nodes + depth_of (d.2) + 16 * 0)) = u.within in
+              let y : 0 ≡ depth_of (d.2) = comes_level program context f.nodes world (d.0) (Eval body.expression ws) [] (d.1) (d.2) (d.3) in
+              let up : f.nodes ≤ div_ceil f.nodes 16 * 16 = (div_ceil_times f.nodes 16 (omega arith)).0 in
+              omega (arith, z, y, up);
         },
       )
   by_match (Some us) is d =

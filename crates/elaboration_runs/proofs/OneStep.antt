@@ -34,7 +34,7 @@ use Rattle.mo_machine.specs.Turns.{resume_call, message, call_cost, call_of, rej
 use Rattle.elaboration_values.specs.Belonging.{Known, EachBelongs}
 use Rattle.elaboration_steps.specs.Stacks.{WorldBelongs}
 use Rattle.elaboration_steps.proofs.Standing.{IsOutside, here_alone}
-use Rattle.elaboration_steps.specs.Follows.{start, rank, owed, enters_at}
+use Rattle.elaboration_steps.specs.Follows.{start, rank, owed}
 use Rattle.elaboration_runs.specs.Together.{Together, GoesOn, IsOver, MoveTurns, ActTurns}
 use Rattle.elaboration_runs.specs.Calling.{SameCall, Surrounded, Calls, CallFollows}
 use Rattle.elaboration_runs.specs.Waiting.{Accounted, AwaitFollows}
@@ -68,7 +68,7 @@ module _ (program : Core) (context : Context) (nodes : ℕ) (s : Surroundings) (
   R c' = (r : There c') × (r.steps ≡ 0 → suc (rank c'.focus c'.stack) ≤ rank c.focus c.stack)
 
   abbrev pub Off : Run → Type 0
-  Off = Finishes program context nodes known w d prints world f k (enters_at c.focus)
+  Off = Finishes program context nodes known w d prints world f k
 
   -- what comes of a step: it goes on, or is over, or breaks
   pub data Outcome : Run → Type 0 where
@@ -82,7 +82,7 @@ module _ (program : Core) (context : Context) (nodes : ℕ) (s : Surroundings) (
   abbrev Over-with : Configuration → execution.End Waiting → Type 0
   Over-with c' end = IsOver program context nodes (start c.focus c.stack) known w d prints world f k c' end
 
-  abbrev F : (enters : Bool) (w d : ℕ) (prints : List Bytes) (world : World) → Run → execution.End Waiting → Type 0
+  abbrev F : (w d : ℕ) (prints : List Bytes) (world : World) → Run → execution.End Waiting → Type 0
   F = Finish program context nodes known
 
   as_many : length world.requests ≡ length c.calls
@@ -109,10 +109,10 @@ module _ (program : Core) (context : Context) (nodes : ℕ) (s : Surroundings) (
   )
 
   -- it is over, with what the run shows then
-  off : (c' : Configuration) (end : execution.End Waiting) (r : Run) (u : Over-with c' end) → F (enters_at c.focus) u.weight' u.depth' u.prints' u.world' r end → Off r
+  off : (c' : Configuration) (end : execution.End Waiting) (r : Run) (u : Over-with c' end) → F u.weight' u.depth' u.prints' u.world' r end → Off r
   off c' end r u finish = record { steps = u.steps; weight' = u.weight'; depth' = u.depth'; prints' = u.prints'; known' = known; world' = u.world'; end = end; by = u.by; grows = ([], paths.nothing_more known); finish = finish }
 
-  shows : (c' : Configuration) (end : execution.End Waiting) (u : Over-with c' end) → Shows program context nodes c' (enters_at c.focus) u.weight' u.depth' u.prints'
+  shows : (c' : Configuration) (end : execution.End Waiting) (u : Over-with c' end) → Shows program context nodes c' u.weight' u.depth' u.prints'
   shows c' end u = record { prints_are = u.prints_are; light = u.light; shallow = u.shallow }
 
   leaves : (c' : Configuration) (end : execution.End Waiting) (u : Over-with c' end) → c'.store ≡ c.store → c'.calls ≡ c.calls → WorldBelongs program.groups known context.globals c.store world → Leaves program context nodes known c' u.world'
@@ -244,9 +244,9 @@ module _ (program : Core) (context : Context) (nodes : ℕ) (s : Surroundings) (
     worlds : WorldBelongs program.groups known context.globals c.store world
     worlds = (here_alone program context nodes world known held c.store c.focus c.stack f k t.stands (subst (λ g. IsOutside g) (sym stands) tt)).0
 
-    seen : (on : Option ℕ) (requests : List Request) (c' : Configuration) (u : Here-waits on requests c') → Shows program context nodes c' (enters_at c.focus) u.weight' u.depth' u.prints'
+    seen : (on : Option ℕ) (requests : List Request) (c' : Configuration) (u : Here-waits on requests c') → Shows program context nodes c' u.weight' u.depth' u.prints'
     seen on requests c' u =
-        record { prints_are = u.prints_are; light = let z : u.weight' + u.less ≤ 2 * c'.weight + owed c'.stack = u.light in omega (arith, z); shallow = λ e. u.shallow }
+        record { prints_are = u.prints_are; light = let z : u.weight' + u.less ≤ 2 * c'.weight + owed c'.stack = u.light in omega (arith, z); shallow = u.shallow }
 
     left : (c' : Configuration) (requests : List Request) → c'.store ≡ c.store → SameCalls c'.calls requests → Leaves program context nodes known c' (record { store = world.store; groups = world.groups; requests = requests })
     left c' requests store_is called =

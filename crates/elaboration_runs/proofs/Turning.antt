@@ -1,7 +1,7 @@
 -- A turn of an execution is followed by a run of Core.
 use Rattle.std.proofs.Common.{◌≡◌, ◌⊎◌, inl, inr, ℕ, suc, ◌+◌, ◌*◌, ◌≤◌, Bool, true, false, List, [], ◌∷◌, ◌++◌, None, refl, sym, ap, ◌∙◌, subst, arith}
 use Rattle.std.specs.Prelude.{max}
-use Rattle.mo_values.specs.Costs.{weighing}
+use Rattle.mo_values.specs.Costs.{Cost, weighing}
 use Rattle.mo_values.specs.Shapes.{Bytes}
 use Rattle.core_ir.specs.Worlds.{World, Context}
 use Rattle.core_ir.specs.Executions.{End, after_step, deep_with}
@@ -16,14 +16,14 @@ use Rattle.mo_machine.specs.Moves.{Move, Moved, Ends, Reduces, move}
 use Rattle.mo_machine.specs.Reductions.{reduces}
 use Rattle.elaboration_values.specs.Belonging.{Known}
 use Rattle.elaboration_steps.specs.Stacks.{Standing, Here, Filling, Gathered, AtEnd}
-use Rattle.elaboration_steps.specs.Follows.{start, owed, NoDeeper, Follows, Stops, MoveFollows, Acts}
+use Rattle.elaboration_steps.specs.Follows.{start, owed, NoDeeper, Follows, AsDeep, InBody, Stops, MoveFollows, Acts, Suits}
 use Rattle.elaboration_steps.specs.Running.{least, Runs, Finishes}
 use Rattle.elaboration_steps.proofs.Running.{ways, ends}
 use Rattle.elaboration_steps.proofs.Standing.{stands_move, stands_reduce}
 use Rattle.elaboration_steps.proofs.StateDepth.{state_deep, filling_deep}
 use Rattle.elaboration_runs.specs.Together.{Together, GoesOn, IsOver, MoveTurns, ActTurns, TurnsFollow}
 use Rattle.elaboration_runs.proofs.Levels.{KeepsLive, move_keeps}
-use Rattle.elaboration_runs.proofs.Flat.{levels_of, gathers_flat}
+use Rattle.elaboration_runs.proofs.Flat.{Lightly, gathers_lightly}
 
 not_moved : (b : Bool) (n : ℕ) → least b ≤ n → n ≡ 0 → b ≡ false
 not_moved false n h e = refl
@@ -74,11 +74,12 @@ module _ (program : Core) (context : Context) (nodes : ℕ) (held : ℕ) (known 
         };
       }
 
-  -- it stops
-  over : (x levels : ℕ) (c' : Configuration) (end : End Waiting) → (r : Stops program context nodes (start c.focus c.stack) 0 (2 * x + held) levels world f k end) → c'.weight ≡ c.weight + x → c'.prints ≡ c.prints → c'.stack ≡ c.stack → 16 + nodes + depth_of k + 16 * levels ≤ c'.depth → c.depth ≤ c'.depth
+  -- it stops, as deep as the execution counts for values, or in a body that Core has entered
+  over : (x levels : ℕ) (c' : Configuration) (end : End Waiting) → (r : Stops program context nodes (start c.focus c.stack) 0 (2 * x + held) levels world f k end) → c'.weight ≡ c.weight + x → c'.prints ≡ c.prints → c'.stack ≡ c.stack → live_state c.focus c.stack + 16 * levels ≤ c'.depth
+      → (16 + nodes + depth_of k + 16 * levels ≤ c'.depth) ⊎ InBody program context nodes (start c.focus c.stack) levels r.through r.cost.levels r.ck' → c.depth ≤ c'.depth
       → IsOver program context nodes (start c.focus c.stack) known w d prints world f k c' end
-  over x levels c' end r weight printed stack level deeper =
-      let u : Finishes program context nodes (2 * x + held) levels w d prints world f k r.ck' end = ends program context nodes (start c.focus c.stack) 0 (2 * x + held) levels world f k end r w d prints (2 * x + held) (omega arith) in
+  over x levels c' end r weight printed stack live level deeper =
+      let u : Finishes program context nodes (2 * x + held) r.through r.cost.levels w d prints world f k r.ck' end = ends program context nodes (start c.focus c.stack) 0 (2 * x + held) levels world f k end r w d prints (2 * x + held) (omega arith) in
       record {
         steps = u.steps;
         weight' = u.weight';
@@ -92,13 +93,23 @@ module _ (program : Core) (context : Context) (nodes : ℕ) (held : ℕ) (known 
             let e : w + held ≤ 2 * c.weight + owed c.stack = t.light in
             let o : owed c'.stack ≡ owed c.stack = ap owed stack in
             omega (arith, a, e, weight, o);
-        shallow = λ h.
-            let a : u.depth' ≤ max d (max (16 + nodes + depth_of k + 16 * levels) (16 + nodes + depth_of r.ck' + 16 * levels)) = u.within in
-            let b : depth_of r.ck' ≤ depth_of k = r.level h in
+        shallow =
+            let a : u.depth' ≤ max d (max (16 + nodes + depth_of k + 16 * r.through) (16 + nodes + depth_of r.ck' + 16 * r.cost.levels)) = u.within in
+            let b : (16 + nodes + depth_of k + 16 * r.through ≤ c'.depth) × (16 + nodes + depth_of r.ck' + 16 * r.cost.levels ≤ c'.depth) = both level r.level in
             let e : d ≤ c.depth = t.shallow in
-            omega (arith, a, b, e, level, deeper);
+            let y : 16 + nodes + depth_of k + 16 * r.through ≤ c'.depth = b.0 in
+            let z : 16 + nodes + depth_of r.ck' + 16 * r.cost.levels ≤ c'.depth = b.1 in
+            omega (arith, a, y, z, e, deeper);
         world_is = refl;
       }
+    where
+      inside : InBody program context nodes (start c.focus c.stack) levels r.through r.cost.levels r.ck' → (16 + nodes + depth_of k + 16 * r.through ≤ c'.depth) × (16 + nodes + depth_of r.ck' + 16 * r.cost.levels ≤ c'.depth)
+      inside (a, b, h) = (let z : 16 + nodes + depth_of k ≤ c.depth = t.deep in omega (arith, z, a, deeper), omega (arith, b, h, live))
+
+      both : (16 + nodes + depth_of k + 16 * levels ≤ c'.depth) ⊎ InBody program context nodes (start c.focus c.stack) levels r.through r.cost.levels r.ck' → AsDeep program context nodes levels r.through r.cost.levels k r.ck' ⊎ InBody program context nodes (start c.focus c.stack) levels r.through r.cost.levels r.ck' → (16 + nodes + depth_of k + 16 * r.through ≤ c'.depth) × (16 + nodes + depth_of r.ck' + 16 * r.cost.levels ≤ c'.depth)
+      both (inr h) s = inside h
+      both (inl le) (inr h) = inside h
+      both (inl le) (inl (a, b, h)) = (omega (arith, le, a), omega (arith, le, b, h))
 
   no_more : {A : Type 0} (xs : List A) → xs ≡ xs ++ []
   no_more [] = refl
@@ -124,7 +135,7 @@ module _ (program : Core) (context : Context) (nodes : ℕ) (held : ℕ) (known 
           ∙ ap (after_step (execution.run (core_machine program) context more) (16 + nodes + depth_of k) w d prints) (r.2);
       prints_are = sym (no_more prints) ∙ t.prints_are;
       light = let e : w + held ≤ 2 * c.weight + owed c.stack = t.light in let p : 1 ≤ held = r.3 in omega (arith, e, p);
-      shallow = λ h. let e : d ≤ c.depth = t.shallow in let y : 16 + nodes + depth_of k ≤ c.depth = t.deep in omega (arith, e, y);
+      shallow = let e : d ≤ c.depth = t.shallow in let y : 16 + nodes + depth_of k ≤ c.depth = t.deep in omega (arith, e, y);
       world_is = refl;
     },
     r.4,
@@ -136,7 +147,17 @@ module _ (program : Core) (context : Context) (nodes : ℕ) (held : ℕ) (known 
   counted levels depth (inl h) le = omega (arith, h, le)
   counted levels depth (inr e) le = let z : 16 + nodes + depth_of k ≤ c.depth = t.deep in omega (arith, z, e, le)
 
-  pub act_turns : (a : Act) → Acts program context nodes (start c.focus c.stack) held known world c.store c.stack 0 f k a → (16 + nodes + depth_of k ≤ live_state c.focus c.stack) ⊎ (levels_of a ≡ 0)
+  -- where Core is deeper than the execution, no values are gone through
+  abbrev Light : (a : Act) → Acts program context nodes (start c.focus c.stack) held known world c.store c.stack 0 f k a → Type 0
+  Light = Lightly program context nodes (start c.focus c.stack) held known world c.store c.stack f k
+
+  trap_counted : (cost : Cost) (text : Bytes) (r : Acts program context nodes (start c.focus c.stack) held known world c.store c.stack 0 f k (Traps cost text)) → (16 + nodes + depth_of k ≤ live_state c.focus c.stack) ⊎ Light (Traps cost text) r
+      → (16 + nodes + depth_of k + 16 * cost.levels ≤ max c.depth (live_state c.focus c.stack + 16 * cost.levels)) ⊎ InBody program context nodes (start c.focus c.stack) cost.levels r.through r.cost.levels r.ck'
+  trap_counted cost text r (inl h) = inl (counted cost.levels (max c.depth (live_state c.focus c.stack + 16 * cost.levels)) (inl h) (omega arith))
+  trap_counted cost text r (inr (inl h)) = inl (counted cost.levels (max c.depth (live_state c.focus c.stack + 16 * cost.levels)) (inr h) (omega arith))
+  trap_counted cost text r (inr (inr h)) = inr h
+
+  pub act_turns : (a : Act) (r : Acts program context nodes (start c.focus c.stack) held known world c.store c.stack 0 f k a) → (16 + nodes + depth_of k ≤ live_state c.focus c.stack) ⊎ Light a r
       → ActTurns program context nodes (start c.focus c.stack) known w d prints world f k c a
   act_turns (Goes cost store g l) r deep =
       goes_on cost.weight cost.levels [] (moved cost store g l c) (subst (λ n. Follows program context nodes (start c.focus c.stack) n (2 * cost.weight + held) cost.levels [] known world f k store g l) (let z : 0 + owed c.stack ≡ owed c.stack = omega arith in z) r)
@@ -144,9 +165,9 @@ module _ (program : Core) (context : Context) (nodes : ℕ) (held : ℕ) (known 
   act_turns (Prints cost text g l) r deep =
       goes_on cost.weight cost.levels (text ∷ []) (record (moved cost c.store g l c) { prints = c.prints ++ text ∷ [] }) (subst (λ n. Follows program context nodes (start c.focus c.stack) n (2 * cost.weight + held) cost.levels (text ∷ []) known world f k c.store g l) (let z : 0 + owed c.stack ≡ owed c.stack = omega arith in z) r)
       refl refl (counted cost.levels (max (max c.depth (live_state c.focus c.stack + 16 * cost.levels)) (live_state g l)) deep (omega arith)) (omega arith) (omega arith)
-  act_turns (Traps cost text) r deep = over cost.weight cost.levels (weighed cost c) (execution.Traps text) r refl refl refl (counted cost.levels (max c.depth (live_state c.focus c.stack + 16 * cost.levels)) deep (omega arith)) (omega arith)
+  act_turns (Traps cost text) r deep = over cost.weight cost.levels (weighed cost c) (execution.Traps text) r refl refl refl (omega arith) (trap_counted cost text r deep) (omega arith)
   act_turns (Throws cost error) r deep =
-      (r.0, r.1, over cost.weight cost.levels (weighed cost c) (execution.Rejects (r.0)) (r.2) refl refl refl (counted cost.levels (max c.depth (live_state c.focus c.stack + 16 * cost.levels)) deep (omega arith)) (omega arith), r.3)
+      (r.0, r.1, over cost.weight cost.levels (weighed cost c) (execution.Rejects (r.0)) (r.2) refl refl refl (omega arith) (inl (counted cost.levels (max c.depth (live_state c.focus c.stack + 16 * cost.levels)) deep (omega arith))) (omega arith), r.3)
   act_turns (Asks request) r deep = tt
   act_turns (Awaits n call) r deep = tt
   act_turns (Leaves labels v) r deep = tt
@@ -155,14 +176,18 @@ module _ (program : Core) (context : Context) (nodes : ℕ) (held : ℕ) (known 
 pub turns : (program : Core) (context : Context) (nodes : ℕ) → TurnsFollow program context nodes
 turns program context nodes held known c w d prints world f k t suits = (
   move_turns program context nodes held known c w d prints world f k t (move c.focus c.stack) (stands_move program context nodes held known world c.store c.focus c.stack f k t.stands) (move_keeps c.focus c.stack),
-  acts_on c.store c.focus c.stack f k t.stands (λ h. act_turns program context nodes held known c w d prints world f k t (reduces context.head None c.store c.focus c.stack) (stands_reduce program context nodes held known world c.store c.focus c.stack f k t.stands suits) h),
+  acts_on c.store c.focus c.stack f k t.stands suits
+      (λ r h. act_turns program context nodes held known c w d prints world f k t (reduces context.head None c.store c.focus c.stack) r h),
 )
   where
     -- the last value is taken by no reduction
-    acts_on : (store : Store) (g : machine.Focus) (l : Stack) (cf : Focus) (ck : List Frame) → Standing program context nodes world known held store g l cf ck
-        → ((16 + nodes + depth_of ck ≤ live_state g l) ⊎ (levels_of (reduces context.head None store g l) ≡ 0) → ActTurns program context nodes (start c.focus c.stack) known w d prints world f k c (reduces context.head None store g l))
+    acts_on : (store : Store) (g : machine.Focus) (l : Stack) (cf : Focus) (ck : List Frame) → Standing program context nodes world known held store g l cf ck → Suits known g l
+        → ((r : Acts program context nodes (start g l) held known world store l 0 cf ck (reduces context.head None store g l)) → (16 + nodes + depth_of ck ≤ live_state g l) ⊎ Lightly program context nodes (start g l) held known world store l cf ck (reduces context.head None store g l) r → ActTurns program context nodes (start c.focus c.stack) known w d prints world f k c (reduces context.head None store g l))
         → ActTurns program context nodes (start c.focus c.stack) known w d prints world f k c (reduces context.head None store g l)
-    acts_on store g l cf ck (Here st gg ll ccf cck worlds (AtEnd v u h cj value eq paid flat)) go = tt
-    acts_on store g l cf ck (Here st gg ll ccf cck worlds state) go = go (inl (state_deep program context nodes world known held g l cf ck state tt))
-    acts_on store g l cf ck (Filling front fresh gg ll ccf cck worlds filling) go = go (inl (filling_deep program context nodes world known held front fresh g l cf ck filling))
-    acts_on store g l cf ck (Gathered st gg ll ccf cck worlds gathering) go = go (inr (gathers_flat program context nodes world known held store g l cf ck gathering))
+    acts_on store g l cf ck (Here st gg ll ccf cck worlds (AtEnd v u h cj value eq paid flat)) meets go = tt
+    acts_on store g l cf ck (Here st gg ll ccf cck worlds state) meets go =
+        go (stands_reduce program context nodes held known world store g l cf ck (Here st gg ll ccf cck worlds state) meets) (inl (state_deep program context nodes world known held g l cf ck state tt))
+    acts_on store g l cf ck (Filling front fresh gg ll ccf cck worlds filling) meets go =
+        go (stands_reduce program context nodes held known world store g l cf ck (Filling front fresh gg ll ccf cck worlds filling) meets) (inl (filling_deep program context nodes world known held front fresh g l cf ck filling))
+    acts_on store g l cf ck (Gathered st gg ll ccf cck worlds gathering) meets go =
+        let r = gathers_lightly program context nodes world known held store worlds g l cf ck gathering meets in go (r.0) (inr (r.1))

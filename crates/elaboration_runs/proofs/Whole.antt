@@ -15,7 +15,7 @@ use Rattle.mo_machine.specs.Values.{Value, Made, NoValue}
 use Rattle.mo_machine.specs.Configurations.{Configuration, Run, Still, Ended, End}
 use Rattle.mo_machine.specs.Turns.{rejects, then_steps, step, steps}
 use Rattle.elaboration_values.specs.Belonging.{Known}
-use Rattle.elaboration_steps.specs.Follows.{rank, enters_at}
+use Rattle.elaboration_steps.specs.Follows.{rank}
 use Rattle.elaboration_runs.specs.Together.{Together}
 use Rattle.elaboration_runs.specs.Calling.{Surrounded}
 use Rattle.elaboration_runs.specs.Waiting.{Accounted}
@@ -46,12 +46,12 @@ no_rejection c z _ h = absurd cc
 module _ (program : Core) (context : Context) (nodes : ℕ) (s : Surroundings) (head_is : context.head ≡ head_at s.types) (same : Surrounded program context nodes s) (accounted : Accounted program context nodes s) where
   -- ---- one step
 
-  pub no_end : (known : List Known) (enters : Bool) (w d : ℕ) (prints : List Bytes) (world : World) (r : Run) (end : execution.End Waiting) (c1 : Configuration) → Finish program context nodes known enters w d prints world r end → r ≡ Still c1 → ⊥
-  no_end known enters w d prints world r end c1 (Returned c v u shows leaves value) e = no_still c c1 _ e
-  no_end known enters w d prints world r end c1 (Thrown c error u shows leaves value) e = no_rejection c c1 error e
-  no_end known enters w d prints world r end c1 (Trapped c text shows) e = no_still c c1 _ e
-  no_end known enters w d prints world r end c1 (Suspended c call stack shows leaves stops) e = no_still c c1 _ e
-  no_end known enters w d prints world r end c1 (Asleep c stack shows leaves) e = no_still c c1 _ e
+  pub no_end : (known : List Known) (w d : ℕ) (prints : List Bytes) (world : World) (r : Run) (end : execution.End Waiting) (c1 : Configuration) → Finish program context nodes known w d prints world r end → r ≡ Still c1 → ⊥
+  no_end known w d prints world r end c1 (Returned c v u shows leaves value) e = no_still c c1 _ e
+  no_end known w d prints world r end c1 (Thrown c error u shows leaves value) e = no_rejection c c1 error e
+  no_end known w d prints world r end c1 (Trapped c text shows) e = no_still c c1 _ e
+  no_end known w d prints world r end c1 (Suspended c call stack shows leaves stops) e = no_still c c1 _ e
+  no_end known w d prints world r end c1 (Asleep c stack shows leaves) e = no_still c c1 _ e
 
   module _ (held : ℕ) (known : List Known) (c : Configuration) (w d : ℕ) (prints : List Bytes) (world : World) (f : Focus) (k : List Frame) (t : Together program context nodes held known c w d prints world f k) (calls : SameCalls c.calls world.requests) (serves : Serves c) where
     abbrev R : Configuration → Type 0
@@ -59,7 +59,7 @@ module _ (program : Core) (context : Context) (nodes : ℕ) (s : Surroundings) (
 
     on_from : (c1 : Configuration) (r : Run) → one.Outcome program context nodes s head_is same accounted held known c w d prints world f k t calls serves r → r ≡ Still c1 → R c1
     on_from c1 r (one.IsOn c' x) e = subst R (still_same c' c1 e) x
-    on_from c1 r (one.IsOff r' o) e = absurd (no_end o.known' (enters_at c.focus) o.weight' o.depth' o.prints' o.world' r' o.end c1 o.finish e)
+    on_from c1 r (one.IsOff r' o) e = absurd (no_end o.known' o.weight' o.depth' o.prints' o.world' r' o.end c1 o.finish e)
     on_from c1 r (one.IsBroken c') e = absurd (no_still c' c1 _ e)
 
     one_step : (c1 : Configuration) → step s c ≡ Still c1 → R c1

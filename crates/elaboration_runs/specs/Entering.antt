@@ -11,6 +11,8 @@ use Rattle.core_ir.specs.CoreMachine.{Frame, Focus, Eval, at, begins, core_machi
 use Rattle.typed_tree.specs.declared.action.Action.TheVariants as action
 use Rattle.typed_tree.specs.Patterns.{Pats, Found, matches_all}
 use Rattle.typed_tree.specs.Language.{Exp, Functions, NoFunction, AFunction}
+use Rattle.mo_meaning.specs.Calls.{failing}
+use Rattle.mo_meaning.specs.Depth.{levels_of_body}
 use Rattle.mo_meaning.specs.Matching.{pattern_failed}
 use Rattle.mo_machine.specs.Values.{Value, Closure, Code, shapes_list, values_list}
 use Rattle.mo_machine.specs.Acts.{Store, Act, Goes}
@@ -73,7 +75,7 @@ module _ (program : Core) (context : Context) (known : List Known) where
       pub by : (more : ℕ) → run (core_machine program) context (steps + more) paid 0 [] world (at program context f.nodes (Eval b.expression ws) []) ≡ run (core_machine program) context more weight' depth' prints' world (at program context f.nodes f' k')
       pub together : Together program context f.nodes 0 known c weight' depth' prints' world f' k'
 
-    -- they have none: both trap
+    -- they have none: both trap, Core in the body
     pub record FailsToMatch (b : core.Body) : Type 0 where
       pub steps : ℕ
       pub weight' : ℕ
@@ -82,9 +84,10 @@ module _ (program : Core) (context : Context) (known : List Known) where
       pub by : (more : ℕ) → run (core_machine program) context (steps + more) paid 0 [] world (at program context f.nodes (Eval b.expression ws) []) ≡ Over weight' depth' prints' world (Traps pattern_failed)
       pub shown : prints' ≡ []
       pub light : weight' ≤ 2 * (2 + length caller + (entering f.nodes f.parameters (shapes_list vs) + length pattern_failed))
+      pub shallow : depth' ≤ 16 * levels_of_body f.nodes
 
     abbrev pub Entered : core.Body → Found Code → Type 0
-    Entered b None = (turn ≡ acts.Traps (weighing (entering f.nodes f.parameters (shapes_list vs) + length pattern_failed)) pattern_failed) × FailsToMatch b
+    Entered b None = (turn ≡ acts.Traps (failing (entering f.nodes f.parameters (shapes_list vs)) f.nodes) pattern_failed) × FailsToMatch b
     Entered b (Some us) =
         (turn ≡ Goes (weighing (entering f.nodes f.parameters (shapes_list vs))) store (machine.Eval f.body (extended (values_list us) (with_group group env))) (Returning f.nodes ∷ []))
         × EntersBody b (moved (weighing (entering f.nodes f.parameters (shapes_list vs))) store (machine.Eval f.body (extended (values_list us) (with_group group env))) (Returning f.nodes ∷ []) called)

@@ -1,5 +1,5 @@
 -- How far Core's run is where an execution of a typed program stands so, and what it is that it follows a turn of that.
-use Rattle.std.specs.Prelude.{◌≡◌, ℕ, suc, ◌+◌, ◌*◌, ◌≤◌, true, List, [], ◌∷◌, ◌++◌, None}
+use Rattle.std.specs.Prelude.{◌≡◌, ℕ, suc, ◌+◌, ◌*◌, ◌≤◌, List, [], ◌∷◌, ◌++◌, None}
 use Rattle.mo_values.specs.Shapes.{Bytes}
 use Rattle.core_ir.specs.Values as core_value
 use Rattle.core_ir.specs.Worlds.{World, Context}
@@ -53,7 +53,7 @@ module _ (program : Core) (context : Context) (nodes : ℕ) where
       pub by : (more : ℕ) → run (core_machine program) context (steps + more) w d prints world (at program context nodes f k) ≡ Over weight' depth' prints' world' end
       pub prints_are : prints' ≡ c.prints
       pub light : weight' ≤ 2 * c.weight + owed c.stack
-      pub shallow : before.enters ≡ true → depth' ≤ c.depth
+      pub shallow : depth' ≤ c.depth
       pub world_is : world' ≡ world
 
     -- a move

@@ -54,7 +54,7 @@ pub fn executions_go_on()
 
 /// After any number of steps of Core's run there is one of steps of the execution: the run has shown no more than that, at no more than twice its weight
 /// and what is owed, and is no deeper; or it is over as that is, with a value or an error that belongs, the same text, or waiting on the same call. The
-/// execution is one that does not break, where values stand where values of their types do, and where the parameters of each call match.
+/// execution is one that does not break, and in which values stand where values of their types do.
 pub fn executions_are_covered()
     ensures { (program : Core) (context : Context) (nodes : ℕ) → ExecutionsCover program context nodes }
 {}

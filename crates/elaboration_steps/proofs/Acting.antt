@@ -1,5 +1,5 @@
 -- What is done where all operands have their values.
-use Rattle.std.proofs.Common.{◌≡◌, ℕ, ◌+◌, ◌*◌, ◌≤◌, Bool, true, List, [], ◌∷◌, ◌++◌, length, Option, Some, None, slice_get, refl, sym, ap, ◌∙◌, subst, arith}
+use Rattle.std.proofs.Common.{◌≡◌, ℕ, ◌+◌, ◌*◌, ◌≤◌, Bool, List, [], ◌∷◌, ◌++◌, length, Option, Some, None, slice_get, refl, sym, ap, ◌∙◌, subst, arith}
 use Rattle.std.specs.Prelude.{slice_set}
 use Rattle.mo_num.specs.declared.operator.Operator.{Operator}
 use Rattle.mo_num.specs.declared.operator.Operator.TheVariants as operator
@@ -50,7 +50,8 @@ use Rattle.elaboration.proofs.Coming.{step}
 use Rattle.elaboration_values.specs.Belonging.{Known, Names, Belongs, EachBelongs}
 use Rattle.elaboration_values.proofs.Belong.{operations}
 use Rattle.elaboration_steps.specs.Stacks.{Labels, IsGoal, row_of, spare, goal_at, WorldBelongs, StateBelongs, AtAction, AtValue, Around}
-use Rattle.elaboration_steps.specs.Follows.{Start, enters_at, owed, Suits, Acts}
+use Rattle.elaboration_steps.specs.Follows.{Start, owed, Suits, Acts}
+use Rattle.mo_machine.specs.Configurations.{live_on}
 use Rattle.elaboration_steps.proofs.Entering.{call_follows}
 use Rattle.elaboration_steps.proofs.MemberCalls.{member_called}
 use Rattle.elaboration_steps.proofs.Leaving.{act_out, past_joins, leaves}
@@ -151,14 +152,14 @@ module _ (program : Core) (context : Context) (nodes : ℕ) (before : Start) (su
     waits_for_nothing (Made (Future call) NoValue) = tt
     waits_for_nothing _ = tt
 
-    call_alike : (f : Value) (w : core_value.Value) (vs : List Value) (ws vals : List core_value.Value) → Belongs known f w → EachBelongs known vs ws → Suits known (Ready action.Call (f ∷ vs)) k → (before.enters ≡ true → enters_at (Ready action.Call (f ∷ vs)) ≡ true) → focused program context nodes world cf ck ≡ act program context nodes world core.Call (w ∷ ws) vals others
+    call_alike : (f : Value) (w : core_value.Value) (vs : List Value) (ws vals : List core_value.Value) → Belongs known f w → EachBelongs known vs ws → Suits known (Ready action.Call (f ∷ vs)) k → live_on k ≤ before.live → focused program context nodes world cf ck ≡ act program context nodes world core.Call (w ∷ ws) vals others
         → T (actions.call store f vs)
-    call_alike (Closure group which env) (shape.Function h) vs ws vals value arguments suits enters eq =
-        call_follows program context nodes before supply known world store k worlds spent cf ck vs ws arguments h b l less others around paid eq group which env value (suits ws arguments) enters
-    call_alike (Closure group which env) (shape.Made i us) vs ws vals value arguments suits enters eq = absurd value
-    call_alike (BuiltIn m holds) (shape.Function h) vs ws vals value arguments suits enters eq = member_called program context nodes before supply known world store k worlds spent cf ck b l less others around paid m holds vs ws h value arguments suits eq
-    call_alike (BuiltIn m holds) (shape.Made i us) vs ws vals value arguments suits enters eq = absurd value
-    call_alike (Made i us) w vs ws vals value arguments suits enters eq = tt
+    call_alike (Closure group which env) (shape.Function h) vs ws vals value arguments suits deep eq =
+        call_follows program context nodes before supply known world store k worlds spent cf ck vs ws arguments h b l less others around paid eq group which env deep value (suits ws arguments)
+    call_alike (Closure group which env) (shape.Made i us) vs ws vals value arguments suits deep eq = absurd value
+    call_alike (BuiltIn m holds) (shape.Function h) vs ws vals value arguments suits deep eq = member_called program context nodes before supply known world store k worlds spent cf ck b l less others around paid m holds vs ws h value arguments suits eq
+    call_alike (BuiltIn m holds) (shape.Made i us) vs ws vals value arguments suits deep eq = absurd value
+    call_alike (Made i us) w vs ws vals value arguments suits deep eq = tt
 
   -- ---- `!`
 
@@ -223,76 +224,76 @@ module _ (program : Core) (context : Context) (nodes : ℕ) (before : Start) (su
     lands : (world' : World) (v : Value) (w : core_value.Value) → Belongs known v w → StateBelongs program context nodes world' known less (machine.Give v) k (Give w) others
     lands world' v w value = AtValue b l v w k others value around
 
-    pub act_follows : (a : Action) (vs : List Value) (ws : List core_value.Value) → IsGoal b a → EachBelongs known vs ws → depth_of ck ≡ depth_of others → Suits known (Ready a vs) k → (before.enters ≡ true → enters_at (Ready a vs) ≡ true) → Before a ws → spent + less ≤ supply + spare a
+    pub act_follows : (a : Action) (vs : List Value) (ws : List core_value.Value) → IsGoal b a → EachBelongs known vs ws → depth_of ck ≡ depth_of others → Suits known (Ready a vs) k → live_on k ≤ before.live → Before a ws → spent + less ≤ supply + spare a
         → T (actions.act context.head None store a vs)
-    act_follows (action.Operate o) vs ws may r level suits enters eq paid =
+    act_follows (action.Operate o) vs ws may r level suits deep eq paid =
         let same : operation_cost o (shapes_list vs) (operate context.head o (shapes_list vs)) ≡ operation_cost o ws (operate context.head o ws) = (operations known context.head o (shapes_list vs) ws r).1 in
         answered_follows less others lands (operation_cost o (shapes_list vs) (operate context.head o (shapes_list vs))) (operate context.head o (shapes_list vs)) (operate context.head o ws) ((operations known context.head o (shapes_list vs) ws r).0)
         (eq ∙ ap (λ c. operated program context nodes world others (primitives.answered context.head world.store c (operate context.head o ws))) (sym same)) (pays o (shapes_list vs) (operate context.head o (shapes_list vs))) (omega (arith, paid))
-    act_follows (action.BuiltIn m) vs ws may r level suits enters eq paid = absurd may
-    act_follows action.New [] ws may r level suits enters eq paid = tt
-    act_follows action.New (v ∷ []) [] may r level suits enters eq paid = absurd r
-    act_follows action.New (v ∷ []) (w ∷ []) may r level suits enters eq paid =
+    act_follows (action.BuiltIn m) vs ws may r level suits deep eq paid = absurd may
+    act_follows action.New [] ws may r level suits deep eq paid = tt
+    act_follows action.New (v ∷ []) [] may r level suits deep eq paid = absurd r
+    act_follows action.New (v ∷ []) (w ∷ []) may r level suits deep eq paid =
         gives_with less others lands (omega (arith, paid)) (store ++ v ∷ []) (with_store world (world.store ++ w ∷ [])) (Made (Cell (length store)) NoValue) (core_value.cell (length world.store)) eq refl
         (record { cells = each_append known store world.store v w worlds.cells (r.0); groups = worlds.groups }) (ap (λ n. Cell n) (as_many known store world.store worlds.cells), tt)
-    act_follows action.New (v ∷ []) (w ∷ x ∷ ws) may r level suits enters eq paid = absurd (r.1)
-    act_follows action.New (v ∷ u ∷ vs) ws may r level suits enters eq paid = tt
-    act_follows action.Read [] ws may r level suits enters eq paid = tt
-    act_follows action.Read (c ∷ []) [] may r level suits enters eq paid = absurd r
-    act_follows action.Read (c ∷ []) (w ∷ []) may r level suits enters eq paid =
+    act_follows action.New (v ∷ []) (w ∷ x ∷ ws) may r level suits deep eq paid = absurd (r.1)
+    act_follows action.New (v ∷ u ∷ vs) ws may r level suits deep eq paid = tt
+    act_follows action.Read [] ws may r level suits deep eq paid = tt
+    act_follows action.Read (c ∷ []) [] may r level suits deep eq paid = absurd r
+    act_follows action.Read (c ∷ []) (w ∷ []) may r level suits deep eq paid =
         read_follows less others lands (omega (arith, paid)) (held store (cell_of c)) (primitives.held world.store (cell_of c)) (held_both less others lands (omega (arith, paid)) (cell_of c))
         (eq ∙ ap (λ o. operated program context nodes world others (on_some primitives.Stuck (primitives.held world.store o) (primitives.gives context.head world.store))) (same_cell known c w (r.0)))
-    act_follows action.Read (c ∷ []) (w ∷ x ∷ ws) may r level suits enters eq paid = absurd (r.1)
-    act_follows action.Read (c ∷ u ∷ vs) ws may r level suits enters eq paid = tt
-    act_follows action.Write [] ws may r level suits enters eq paid = tt
-    act_follows action.Write (c ∷ []) ws may r level suits enters eq paid = tt
-    act_follows action.Write (c ∷ v ∷ []) [] may r level suits enters eq paid = absurd r
-    act_follows action.Write (c ∷ v ∷ []) (w ∷ []) may r level suits enters eq paid = absurd (r.1)
-    act_follows action.Write (c ∷ v ∷ []) (w ∷ x ∷ []) may r level suits enters eq paid =
+    act_follows action.Read (c ∷ []) (w ∷ x ∷ ws) may r level suits deep eq paid = absurd (r.1)
+    act_follows action.Read (c ∷ u ∷ vs) ws may r level suits deep eq paid = tt
+    act_follows action.Write [] ws may r level suits deep eq paid = tt
+    act_follows action.Write (c ∷ []) ws may r level suits deep eq paid = tt
+    act_follows action.Write (c ∷ v ∷ []) [] may r level suits deep eq paid = absurd r
+    act_follows action.Write (c ∷ v ∷ []) (w ∷ []) may r level suits deep eq paid = absurd (r.1)
+    act_follows action.Write (c ∷ v ∷ []) (w ∷ x ∷ []) may r level suits deep eq paid =
         written_follows less others lands (omega (arith, paid)) (cell_of c) v x (r.1.0) (eq ∙ ap (λ o. operated program context nodes world others (primitives.written context.head world.store x o)) (same_cell known c w (r.0)))
-    act_follows action.Write (c ∷ v ∷ []) (w ∷ x ∷ y ∷ ws) may r level suits enters eq paid = absurd (r.1.1)
-    act_follows action.Write (c ∷ v ∷ u ∷ vs) ws may r level suits enters eq paid = tt
-    act_follows action.WriteElement [] ws may r level suits enters eq paid = tt
-    act_follows action.WriteElement (a ∷ []) ws may r level suits enters eq paid = tt
-    act_follows action.WriteElement (a ∷ i ∷ []) ws may r level suits enters eq paid = tt
-    act_follows action.WriteElement (a ∷ i ∷ v ∷ []) [] may r level suits enters eq paid = absurd r
-    act_follows action.WriteElement (a ∷ i ∷ v ∷ []) (w ∷ []) may r level suits enters eq paid = absurd (r.1)
-    act_follows action.WriteElement (a ∷ i ∷ v ∷ []) (w ∷ x ∷ []) may r level suits enters eq paid = absurd (r.1.1)
-    act_follows action.WriteElement (a ∷ i ∷ v ∷ []) (w ∷ x ∷ y ∷ []) may r level suits enters eq paid =
+    act_follows action.Write (c ∷ v ∷ []) (w ∷ x ∷ y ∷ ws) may r level suits deep eq paid = absurd (r.1.1)
+    act_follows action.Write (c ∷ v ∷ u ∷ vs) ws may r level suits deep eq paid = tt
+    act_follows action.WriteElement [] ws may r level suits deep eq paid = tt
+    act_follows action.WriteElement (a ∷ []) ws may r level suits deep eq paid = tt
+    act_follows action.WriteElement (a ∷ i ∷ []) ws may r level suits deep eq paid = tt
+    act_follows action.WriteElement (a ∷ i ∷ v ∷ []) [] may r level suits deep eq paid = absurd r
+    act_follows action.WriteElement (a ∷ i ∷ v ∷ []) (w ∷ []) may r level suits deep eq paid = absurd (r.1)
+    act_follows action.WriteElement (a ∷ i ∷ v ∷ []) (w ∷ x ∷ []) may r level suits deep eq paid = absurd (r.1.1)
+    act_follows action.WriteElement (a ∷ i ∷ v ∷ []) (w ∷ x ∷ y ∷ []) may r level suits deep eq paid =
         element_follows less others lands (omega (arith, paid)) (operate context.head op.Element (shape_of a ∷ shape_of i ∷ [])) (operate context.head op.Element (w ∷ x ∷ []))
         ((operations known context.head op.Element (shape_of a ∷ shape_of i ∷ []) (w ∷ x ∷ []) (r.0, (r.1.0, tt))).0) v y (r.1.1.0) eq
-    act_follows action.WriteElement (a ∷ i ∷ v ∷ []) (w ∷ x ∷ y ∷ z ∷ ws) may r level suits enters eq paid = absurd (r.1.1.1)
-    act_follows action.WriteElement (a ∷ i ∷ v ∷ u ∷ vs) ws may r level suits enters eq paid = tt
-    act_follows action.Print [] ws may r level suits enters eq paid = tt
-    act_follows action.Print (v ∷ []) [] may r level suits enters eq paid = absurd r
-    act_follows action.Print (v ∷ []) (w ∷ []) may r level suits enters eq paid = printed_follows less others lands (omega (arith, paid)) v w (r.0) suits eq
-    act_follows action.Print (v ∷ []) (w ∷ x ∷ ws) may r level suits enters eq paid = absurd (r.1)
-    act_follows action.Print (v ∷ u ∷ vs) ws may r level suits enters eq paid = tt
-    act_follows action.Throw [] ws may r level suits enters eq paid = tt
-    act_follows action.Throw (v ∷ []) [] may r level suits enters eq paid = absurd r
-    act_follows action.Throw (v ∷ []) (w ∷ []) may r level suits enters eq paid =
+    act_follows action.WriteElement (a ∷ i ∷ v ∷ []) (w ∷ x ∷ y ∷ z ∷ ws) may r level suits deep eq paid = absurd (r.1.1.1)
+    act_follows action.WriteElement (a ∷ i ∷ v ∷ u ∷ vs) ws may r level suits deep eq paid = tt
+    act_follows action.Print [] ws may r level suits deep eq paid = tt
+    act_follows action.Print (v ∷ []) [] may r level suits deep eq paid = absurd r
+    act_follows action.Print (v ∷ []) (w ∷ []) may r level suits deep eq paid = printed_follows less others lands (omega (arith, paid)) v w (r.0) suits eq
+    act_follows action.Print (v ∷ []) (w ∷ x ∷ ws) may r level suits deep eq paid = absurd (r.1)
+    act_follows action.Print (v ∷ u ∷ vs) ws may r level suits deep eq paid = tt
+    act_follows action.Throw [] ws may r level suits deep eq paid = tt
+    act_follows action.Throw (v ∷ []) [] may r level suits deep eq paid = absurd r
+    act_follows action.Throw (v ∷ []) (w ∷ []) may r level suits deep eq paid =
         throws program context nodes before supply known world store k worlds v w (r.0) spent cf ck l less k others (subst (λ x. Around program context nodes world known x l less k others) may around) (suits w (r.0)) eq (omega (arith, paid)) refl low level
-    act_follows action.Throw (v ∷ []) (w ∷ x ∷ ws) may r level suits enters eq paid = absurd (r.1)
-    act_follows action.Throw (v ∷ u ∷ vs) ws may r level suits enters eq paid = tt
-    act_follows action.Call [] ws may r level suits enters eq paid = tt
-    act_follows action.Call (f ∷ vs) [] may r level suits enters eq paid = absurd r
-    act_follows action.Call (f ∷ vs) (w ∷ ws) may r level suits enters eq paid = call_alike b l less others around (omega (arith, paid)) f w vs ws vals (r.0) (r.1) suits enters eq
-    act_follows (action.Send ps rs) [] ws may r level suits enters eq paid = tt
-    act_follows (action.Send ps rs) (f ∷ vs) ws may r level suits enters eq paid = asks_nothing b l less others around (omega (arith, paid)) ps rs f vs
-    act_follows action.Await [] ws may r level suits enters eq paid = tt
-    act_follows action.Await (v ∷ []) ws may r level suits enters eq paid = waits_for_nothing b l less others around (omega (arith, paid)) v
-    act_follows action.Await (v ∷ u ∷ vs) ws may r level suits enters eq paid = tt
-    act_follows (action.Break n) [] ws may r level suits enters eq paid = tt
-    act_follows (action.Break n) (v ∷ []) [] may r level suits enters eq paid = absurd r
-    act_follows (action.Break n) (v ∷ []) (w ∷ []) may r level suits enters eq paid =
+    act_follows action.Throw (v ∷ []) (w ∷ x ∷ ws) may r level suits deep eq paid = absurd (r.1)
+    act_follows action.Throw (v ∷ u ∷ vs) ws may r level suits deep eq paid = tt
+    act_follows action.Call [] ws may r level suits deep eq paid = tt
+    act_follows action.Call (f ∷ vs) [] may r level suits deep eq paid = absurd r
+    act_follows action.Call (f ∷ vs) (w ∷ ws) may r level suits deep eq paid = call_alike b l less others around (omega (arith, paid)) f w vs ws vals (r.0) (r.1) suits deep eq
+    act_follows (action.Send ps rs) [] ws may r level suits deep eq paid = tt
+    act_follows (action.Send ps rs) (f ∷ vs) ws may r level suits deep eq paid = asks_nothing b l less others around (omega (arith, paid)) ps rs f vs
+    act_follows action.Await [] ws may r level suits deep eq paid = tt
+    act_follows action.Await (v ∷ []) ws may r level suits deep eq paid = waits_for_nothing b l less others around (omega (arith, paid)) v
+    act_follows action.Await (v ∷ u ∷ vs) ws may r level suits deep eq paid = tt
+    act_follows (action.Break n) [] ws may r level suits deep eq paid = tt
+    act_follows (action.Break n) (v ∷ []) [] may r level suits deep eq paid = absurd r
+    act_follows (action.Break n) (v ∷ []) (w ∷ []) may r level suits deep eq paid =
         leaves program context nodes before supply known world store k worlds v w (r.0) spent cf ck b l less n k others around (eq ∙ act_out program context nodes world w (slice_get l.exits n) l.count vals others) (omega (arith, paid)) refl low level
-    act_follows (action.Break n) (v ∷ []) (w ∷ x ∷ ws) may r level suits enters eq paid = absurd (r.1)
-    act_follows (action.Break n) (v ∷ u ∷ vs) ws may r level suits enters eq paid = tt
-    act_follows (action.Unwrap n) [] ws may r level suits enters eq paid = tt
-    act_follows (action.Unwrap n) (v ∷ []) [] may r level suits enters eq paid = absurd r
-    act_follows (action.Unwrap n) (v ∷ []) (w ∷ []) may r level suits enters eq paid = unwraps b l less others around n vals (omega (arith, paid)) v w (r.0) eq
-    act_follows (action.Unwrap n) (v ∷ []) (w ∷ x ∷ ws) may r level suits enters eq paid = absurd (r.1)
-    act_follows (action.Unwrap n) (v ∷ u ∷ vs) ws may r level suits enters eq paid = tt
+    act_follows (action.Break n) (v ∷ []) (w ∷ x ∷ ws) may r level suits deep eq paid = absurd (r.1)
+    act_follows (action.Break n) (v ∷ u ∷ vs) ws may r level suits deep eq paid = tt
+    act_follows (action.Unwrap n) [] ws may r level suits deep eq paid = tt
+    act_follows (action.Unwrap n) (v ∷ []) [] may r level suits deep eq paid = absurd r
+    act_follows (action.Unwrap n) (v ∷ []) (w ∷ []) may r level suits deep eq paid = unwraps b l less others around n vals (omega (arith, paid)) v w (r.0) eq
+    act_follows (action.Unwrap n) (v ∷ []) (w ∷ x ∷ ws) may r level suits deep eq paid = absurd (r.1)
+    act_follows (action.Unwrap n) (v ∷ u ∷ vs) ws may r level suits deep eq paid = tt
 
   -- ---- built-in functions that are one operation or a print
 

@@ -1,6 +1,8 @@
 -- Calls of functions.
 use Rattle.std.proofs.Common.{◌≡◌, ℕ, zero, suc, ◌+◌, ◌-◌, ◌*◌, ◌≤◌, Bool, true, false, List, [], ◌∷◌, ◌++◌, length, Option, Some, None, slice_get, refl, sym, ap, ap₂, ◌∙◌, subst, arith}
+use Rattle.std.specs.Int.{div_ceil}
 use Rattle.std.specs.Prelude.{cond, nat_eq}
+use Rattle.std.proofs.lemmas.Grind.{div_ceil_times}
 use Rattle.std.proofs.lemmas.Bool.{eq-eqb}
 use Rattle.mo_values.specs.Alike.{AlikeEach}
 use Rattle.mo_values.specs.Costs.{weighing}
@@ -16,13 +18,15 @@ use Rattle.core_ir.specs.Executions as execution
 use Rattle.core_ir.specs.Expressions as core
 use Rattle.core_ir.specs.Expressions.{Body, Core}
 use Rattle.core_ir.specs.CoreMachine as core_machine
-use Rattle.core_ir.specs.CoreMachine.{Frame, Caller, Focus, Eval, State, Did, focused, at, called, stuck}
+use Rattle.core_ir.specs.CoreMachine.{Frame, Caller, Focus, Eval, State, Did, focused, at, called, stuck, depth_of}
 use Rattle.typed_tree.specs.declared.action.Member.{Member}
 use Rattle.typed_tree.specs.Patterns.{Pats, Found, NoPat, APat, matches_all, all_of}
 use Rattle.typed_tree.specs.PatternWeights.{pattern_weight, weight_of_all}
 use Rattle.typed_tree.specs.Language.{Exp, Functions, NoFunction, AFunction}
 use Rattle.typed_tree.specs.Substitution.{count}
+use Rattle.mo_meaning.specs.Depth.{levels_of_body}
 use Rattle.mo_meaning.specs.Matching.{pattern_failed}
+use Rattle.mo_machine.specs.Configurations.{live_on}
 use Rattle.mo_machine.specs.Values.{Value, Code, ClosureCode, BuiltInCode, shapes_list, values_list, Values}
 use Rattle.mo_machine.specs.Environments.{Environment, extended, with_group}
 use Rattle.mo_machine.specs.Acts.{Store, Act, Stuck}
@@ -40,10 +44,11 @@ use Rattle.elaboration_forms.specs.Elaborates.{Elaborates, ElaboratesFunctions}
 use Rattle.elaboration_values.specs.Belonging.{Known, OfFunctions, OfMember, code_in, Names, EachBelongs, AlikeFound, EnvironmentBelongs}
 use Rattle.elaboration_values.proofs.Belong.{patterns, names_extend}
 use Rattle.elaboration_steps.specs.Stacks.{Labels, no_labels, scope, FunctionsBelong, WorldBelongs, AtCode, Around, InFunction}
-use Rattle.elaboration_steps.specs.Follows.{Start, is_found, parameters_match, owed, ParametersMeet, Acts}
+use Rattle.elaboration_steps.specs.Follows.{Start, owed, ParametersMeet, Acts, TrapsInBody}
+use Rattle.elaboration_steps.proofs.Depth.{as_deep}
 use Rattle.elaboration_steps.proofs.Groups.{with_members, as_many_bodies, group_names}
 use Rattle.elaboration_steps.proofs.Matching.{names_more, coded}
-use Rattle.elaboration_steps.proofs.Paths.{nothing_more, does_then, stops_then}
+use Rattle.elaboration_steps.proofs.Paths.{nothing_more, does_then, stops_in}
 use Rattle.elaboration_steps.proofs.Values.{as_many, values_belong}
 
 -- ---- several patterns
@@ -103,33 +108,37 @@ read_arguments (w ∷ ws) rest level e =
 
 -- ---- the function of a place
 
-module _ (table : List (Group Body)) (s : Scope) (T : Act → Type 0) (store : Store) (group : Functions) (env : Environment) (vs : List Value) (ws : List core_value.Value) (k : Stack) (enters : Bool) where
-  function_at : (fns : Functions) (bodies : List Body) (n : ℕ) → T Stuck → ElaboratesFunctions table s fns bodies → ParametersMeet fns n ws → (enters ≡ true → parameters_match fns n vs ≡ true)
+module _ (table : List (Group Body)) (s : Scope) (T : Act → Type 0) (store : Store) (group : Functions) (env : Environment) (vs : List Value) (ws : List core_value.Value) (k : Stack) where
+  function_at : (fns : Functions) (bodies : List Body) (n : ℕ) → T Stuck → ElaboratesFunctions table s fns bodies → ParametersMeet fns n ws
       → ((nodes : ℕ) (ps : Pats) (body : Exp) (y : core.Exp) → slice_get bodies n ≡ Some (record { parameters = number_of_parameters ps; nodes = nodes; expression = around_all (on_parameters ps s).checks fails y })
-      → Elaborates table false (behind (on_parameters ps s) (in_body (number_of_parameters ps) s)) body y → MeetEach ps ws → (enters ≡ true → is_found (matches_all ps (shapes_list vs)) ≡ true)
+      → Elaborates table false (behind (on_parameters ps s) (in_body (number_of_parameters ps) s)) body y → MeetEach ps ws
       → T (on_stack store (cond (are_as_many ps vs) (entered store group env (entering nodes ps (shapes_list vs)) nodes body (matches_all ps (shapes_list vs))) Stuck) k))
       → T (on_stack store (call_function store group env fns n vs) k)
-  function_at NoFunction bodies n none r meets fits f = none
-  function_at (AFunction how nodes ps body fns) bodies zero none r meets fits f = f nodes ps body (r.0) (ap (λ l. slice_get l 0) (r.4)) (r.2) meets fits
-  function_at (AFunction how nodes ps body fns) bodies (suc n) none r meets fits f =
-      function_at fns (r.1) n none (r.3) meets fits (λ nodes2 ps2 body2 y at code m h. f nodes2 ps2 body2 y (ap (λ l. slice_get l (suc n)) (r.4) ∙ at) code m h)
+  function_at NoFunction bodies n none r meets f = none
+  function_at (AFunction how nodes ps body fns) bodies zero none r meets f = f nodes ps body (r.0) (ap (λ l. slice_get l 0) (r.4)) (r.2) meets
+  function_at (AFunction how nodes ps body fns) bodies (suc n) none r meets f =
+      function_at fns (r.1) n none (r.3) meets (λ nodes2 ps2 body2 y at code m. f nodes2 ps2 body2 y (ap (λ l. slice_get l (suc n)) (r.4) ∙ at) code m)
 
 module _ (program : Core) (context : Context) (nodes : ℕ) (before : Start) (held : ℕ) (known : List Known) (world : World) (store : Store) (k : Stack) (worlds : WorldBelongs program.groups known context.globals store world) (spent : ℕ) (cf : Focus) (ck : List Frame) where
+  abbrev A : Act → Type 0
+  A = Acts program context nodes before held known world store k spent cf ck
+
+  -- where the arguments do not match, in the body
   abbrev T : Act → Type 0
-  T = Acts program context nodes before held known world store k spent cf ck
+  T a = (r : A a) × TrapsInBody program context nodes before held known world store k spent cf ck a r
 
   -- by what a call is done, at so much more in weight, and what its value is for
   module _ (vs : List Value) (ws : List core_value.Value) (arguments : EachBelongs known vs ws) (h : Handle) (less : ℕ) (how : Did → Did) (extra : ℕ) (gathering : Option Gathering) (others : List Frame)
       (around : (n : ℕ) (joins : List Frame) → Joins joins → Around program context nodes world known false no_labels less (Returning n ∷ k) (joins ++ (Caller n gathering ∷ others)))
       (weighs : (n : ℕ) (s : State) → how (Go (weighing (1 + n)) [] world s) ≡ Go (weighing (extra + (1 + n))) [] world s) (small : extra ≤ 1) (paid : spent + less ≤ held)
-      (eq : focused program context nodes world cf ck ≡ how (called program context nodes world (Function h) ws gathering others)) where
+      (eq : focused program context nodes world cf ck ≡ how (called program context nodes world (Function h) ws gathering others)) (low : live_on k ≤ before.live) where
     -- the function is entered, and its parameters are looked at
     enters : (group : Functions) (env : Environment) (there : slice_get known h.group ≡ Some (OfFunctions group env)) (made : MadeGroup) → slice_get world.groups h.group ≡ Some made → (r : FunctionsBelong program.groups known context.globals group env made)
         → (n : ℕ) (ps : Pats) (body : Exp) (y : core.Exp) → slice_get r.bodies h.member ≡ Some (record { parameters = number_of_parameters ps; nodes = n; expression = around_all (on_parameters ps (under (count group) (scope r.places r.labels made.seen))).checks fails y })
-        → Elaborates program.groups false (behind (on_parameters ps (under (count group) (scope r.places r.labels made.seen))) (in_body (number_of_parameters ps) (under (count group) (scope r.places r.labels made.seen)))) body y → MeetEach ps ws → (before.enters ≡ true → is_found (matches_all ps (shapes_list vs)) ≡ true)
+        → Elaborates program.groups false (behind (on_parameters ps (under (count group) (scope r.places r.labels made.seen))) (in_body (number_of_parameters ps) (under (count group) (scope r.places r.labels made.seen)))) body y → MeetEach ps ws
         → (m : Bool) → are_as_many ps vs ≡ m → T (on_stack store (cond m (entered store group env (entering n ps (shapes_list vs)) n body (matches_all ps (shapes_list vs))) Stuck) k)
-    enters group env there made at_group r n ps body y at_body code meets fits false many = tt
-    enters group env there made at_group r n ps body y at_body code meets fits true many = go (matches_all ps (shapes_list vs)) (matches_all ps ws) (alike.0) fits (decide_all program context nodes world ps ws level names vals (Caller n gathering ∷ others) same_names (read_arguments ws rest level same_level) meets)
+    enters group env there made at_group r n ps body y at_body code meets false many = (tt, tt)
+    enters group env there made at_group r n ps body y at_body code meets true many = go (matches_all ps (shapes_list vs)) (matches_all ps ws) (alike.0) (decide_all program context nodes world ps ws level names vals (Caller n gathering ∷ others) same_names (read_arguments ws rest level same_level) meets)
       where
         s : Scope
         s = under (count group) (scope r.places r.labels made.seen)
@@ -182,35 +191,39 @@ module _ (program : Core) (context : Context) (nodes : ℕ) (before : Start) (he
             ∙ ap (λ t. cond t (core_machine.go program context nodes (1 + n) world (Eval (around_all c'.checks fails y) vals) (Caller n gathering ∷ others)) (stuck program context nodes world)) (eq-eqb (length ws) (number_of_parameters ps) arguments_are)))))
             ∙ weighs n (at program context nodes (Eval (around_all c'.checks fails y) vals) (Caller n gathering ∷ others)))
 
-        go : (o : Found Code) (o' : Found Handle) → AlikeFound known o o' → (before.enters ≡ true → is_found o ≡ true) → Decides program context nodes world o' (2 * weight_of_all ps ws) vals (Caller n gathering ∷ others) (check_all ps level names)
+        go : (o : Found Code) (o' : Found Handle) → AlikeFound known o o' → Decides program context nodes world o' (2 * weight_of_all ps ws) vals (Caller n gathering ∷ others) (check_all ps level names)
             → T (on_stack store (entered store group env (entering n ps (shapes_list vs)) n body o) k)
-        go None None a fits d =
+        go None None a d =
             let x : weight_of_all ps (shapes_list vs) ≡ weight_of_all ps ws = alike.1 in
             let z : 1 ≤ length pattern_failed = omega arith in
-            stops_then program context nodes (2 * weight_of_all ps ws) before spent (2 * (entering n ps (shapes_list vs) + length pattern_failed) + held) 0 (weighing (extra + (1 + n))) (weighing (1 + length pattern_failed)) world cf ck _ _ (Eval fails (d.0)) ((d.1) ++ (Caller n gathering ∷ others)) (execution.Traps pattern_failed)
-            begins (d.2 fails y) refl (omega (arith, x, z, paid, small)) (omega arith) (omega arith) (λ e. absurd (let t : false ≡ true = fits e in cc))
-        go None (Some xs) a fits d = absurd a
-        go (Some us) None a fits d = absurd a
-        go (Some us) (Some xs) a fits d =
-            let x : weight_of_all ps (shapes_list vs) ≡ weight_of_all ps ws = alike.1 in
-            does_then program context nodes (2 * weight_of_all ps ws) before (spent + owed k) (2 * entering n ps (shapes_list vs) + held) 0 less (weighing (extra + (1 + n))) [] known known world world cf ck _ _ (Eval y (d.0)) ((d.1) ++ (Caller n gathering ∷ others)) store
-            (machine.Eval body (extended (values_list us) (with_group group env))) (Returning n ∷ k)
-            begins (d.2 fails y) (omega (arith, x, paid, small)) (omega arith) ([], nothing_more known) refl worlds
-            (AtCode false no_labels body (extended (values_list us) (with_group group env)) (Returning n ∷ k) y (d.0) ((d.1) ++ (Caller n gathering ∷ others))
-            (coded program context nodes known false (behind c' (in_body (number_of_parameters ps) s)) body (extended (values_list us) (with_group group env)) y (d.0) (d.3) code
-            (names_extend known context.globals s.places (with_group group env) vals (d.0) c'.bound (values_list us) xs
-            (names_more known context.globals s.places (with_group group env) rest vals
-            (subst (λ i. EnvironmentBelongs known context.globals s.places (with_group group env) (members h.group 0 i ++ made.seen)) (sym bodies_are)
-            (group_names known context.globals group env h.group there group 0 env r.places made.seen r.names))
-            (more_before ws rest)) (d.5) (d.4) (values_belong known us xs a)))
-            (around n (d.1) (d.6)))
+            let l : live_on (Returning n ∷ k) ≡ 16 + nodes + depth_of ((d.1) ++ (Caller n gathering ∷ others)) = as_deep program.groups known context.globals nodes false no_labels less (Returning n ∷ k) ((d.1) ++ (Caller n gathering ∷ others)) (around n (d.1) (d.4)) in
+            let up : n ≤ div_ceil n 16 * 16 = (div_ceil_times n 16 (omega arith)).0 in
+            stops_in program context nodes (2 * weight_of_all ps ws) before spent (2 * (entering n ps (shapes_list vs) + length pattern_failed) + held) (levels_of_body n) (weighing (extra + (1 + n))) (weighing (1 + length pattern_failed)) world cf ck _ _ (Eval fails (d.0)) ((d.1) ++ (Caller n gathering ∷ others)) (execution.Traps pattern_failed)
+            begins (d.2 fails y) refl (omega (arith, x, z, paid, small)) refl refl (omega (arith, l, up, low))
+        go None (Some xs) a d = absurd a
+        go (Some us) None a d = absurd a
+        go (Some us) (Some xs) a d =
+            let x : weight_of_all ps (shapes_list vs) ≡ weight_of_all ps ws = alike.1 in (
+              does_then program context nodes (2 * weight_of_all ps ws) before (spent + owed k) (2 * entering n ps (shapes_list vs) + held) 0 less (weighing (extra + (1 + n))) [] known known world world cf ck _ _ (Eval y (d.0)) ((d.1) ++ (Caller n gathering ∷ others)) store
+                  (machine.Eval body (extended (values_list us) (with_group group env))) (Returning n ∷ k)
+                  begins (d.2 fails y) (omega (arith, x, paid, small)) (omega arith) ([], nothing_more known) refl worlds
+                  (AtCode false no_labels body (extended (values_list us) (with_group group env)) (Returning n ∷ k) y (d.0) ((d.1) ++ (Caller n gathering ∷ others))
+                  (coded program context nodes known false (behind c' (in_body (number_of_parameters ps) s)) body (extended (values_list us) (with_group group env)) y (d.0) (d.3) code
+                  (names_extend known context.globals s.places (with_group group env) vals (d.0) c'.bound (values_list us) xs
+                  (names_more known context.globals s.places (with_group group env) rest vals
+                  (subst (λ i. EnvironmentBelongs known context.globals s.places (with_group group env) (members h.group 0 i ++ made.seen)) (sym bodies_are)
+                  (group_names known context.globals group env h.group there group 0 env r.places made.seen r.names))
+                  (more_before ws rest)) (d.5) (d.4) (values_belong known us xs a)))
+                  (around n (d.1) (d.6))),
+              tt,
+            )
 
     other_code : (n : ℕ) (m : Member) (holds : Values) (group : Functions) (which : ℕ) (env : Environment) → code_in (Some (OfMember m holds)) n ≡ Some (ClosureCode group which env) → ⊥
     other_code zero m holds group which env z = let y : Some (BuiltInCode m holds) ≡ Some (ClosureCode group which env) = z in cc
     other_code (suc n) m holds group which env z = let y : None ≡ Some (ClosureCode group which env) = z in cc
 
-    pub call_by_follows : (group : Functions) (which : ℕ) (env : Environment) → Names known (ClosureCode group which env) h → ParametersMeet group which ws → (before.enters ≡ true → parameters_match group which vs ≡ true) → T (on_stack store (call_function store group env group which vs) k)
-    call_by_follows group which env value meets fits = by (slice_get known h.group) refl value
+    pub call_by_follows : (group : Functions) (which : ℕ) (env : Environment) → Names known (ClosureCode group which env) h → ParametersMeet group which ws → T (on_stack store (call_function store group env group which vs) k)
+    call_by_follows group which env value meets = by (slice_get known h.group) refl value
       where
         by : (o : Option Known) → slice_get known h.group ≡ o → code_in o h.member ≡ Some (ClosureCode group which env) → T (on_stack store (call_function store group env group which vs) k)
         by None e z = absurd (let y : None ≡ Some (ClosureCode group which env) = z in cc)
@@ -224,12 +237,12 @@ module _ (program : Core) (context : Context) (nodes : ℕ) (before : Start) (he
             found : slice_get known h.group ≡ Some (OfFunctions group env) → h.member ≡ which → T (on_stack store (call_function store group env group which vs) k)
             found there same =
                 let f : (m : MadeGroup) × (slice_get world.groups h.group ≡ Some m) × FunctionsBelong program.groups known context.globals group env m = worlds.groups.each h.group (OfFunctions group env) there in
-                function_at program.groups (under (count group) (scope (f.2).places (f.2).labels (f.0).seen)) T store group env vs ws k before.enters group (f.2).bodies which tt (f.2).code meets fits
-                (λ n ps body y at code m h. enters group env there (f.0) (f.1) (f.2) n ps body y (subst (λ i. slice_get (f.2).bodies i ≡ Some (record { parameters = number_of_parameters ps; nodes = n; expression = around_all (on_parameters ps (under (count group) (scope (f.2).places (f.2).labels (f.0).seen))).checks fails y })) (sym same) at) code m h (are_as_many ps vs) refl)
+                function_at program.groups (under (count group) (scope (f.2).places (f.2).labels (f.0).seen)) T store group env vs ws k group (f.2).bodies which (tt, tt) (f.2).code meets
+                (λ n ps body y at code m. enters group env there (f.0) (f.1) (f.2) n ps body y (subst (λ i. slice_get (f.2).bodies i ≡ Some (record { parameters = number_of_parameters ps; nodes = n; expression = around_all (on_parameters ps (under (count group) (scope (f.2).places (f.2).labels (f.0).seen))).checks fails y })) (sym same) at) code m (are_as_many ps vs) refl)
         by (Some (OfMember m holds)) e z = absurd (other_code h.member m holds group which env z)
 
   pub call_follows : (vs : List Value) (ws : List core_value.Value) → EachBelongs known vs ws → (h : Handle) (b : Bool) (l : Labels) (less : ℕ) (others : List Frame) → Around program context nodes world known b l less k others → spent + less ≤ held
       → focused program context nodes world cf ck ≡ called program context nodes world (Function h) ws None others
-      → (group : Functions) (which : ℕ) (env : Environment) → Names known (ClosureCode group which env) h → ParametersMeet group which ws → (before.enters ≡ true → parameters_match group which vs ≡ true) → T (on_stack store (call_function store group env group which vs) k)
-  call_follows vs ws arguments h b l less others around paid eq = call_by_follows vs ws arguments h less (λ d. d) 0 None others (λ n joins i. InFunction n b l less k joins others i around)
-      (λ n s. ap (λ i. Go (weighing i) [] world s) (let z : 1 + n ≡ 0 + (1 + n) = omega arith in z)) (omega arith) paid eq
+      → (group : Functions) (which : ℕ) (env : Environment) → live_on k ≤ before.live → Names known (ClosureCode group which env) h → ParametersMeet group which ws → A (on_stack store (call_function store group env group which vs) k)
+  call_follows vs ws arguments h b l less others around paid eq group which env low value meets = (call_by_follows vs ws arguments h less (λ d. d) 0 None others (λ n joins i. InFunction n b l less k joins others i around)
+      (λ n s. ap (λ i. Go (weighing i) [] world s) (let z : 1 + n ≡ 0 + (1 + n) = omega arith in z)) (omega arith) paid eq low group which env value meets).0

@@ -17,10 +17,13 @@ use Rattle.typed_tree.specs.declared.action.Action.{Action}
 use Rattle.typed_tree.specs.declared.action.Action.TheVariants as action
 use Rattle.typed_tree.specs.declared.action.Member.{Member}
 use Rattle.typed_tree.specs.declared.action.Member.TheVariants as member
+use Rattle.typed_tree.specs.Language.{Functions}
 use Rattle.mo_machine.specs.Values.{Value, Values, Made, Closure, BuiltIn, Code, ClosureCode, BuiltInCode, leaf, listed, value_of, shapes_list}
 use Rattle.mo_machine.specs.Acts.{Store, Act}
 use Rattle.mo_machine.specs.Actions as actions
 use Rattle.mo_machine.specs.Frames as machine
+use Rattle.mo_machine.specs.Calls.{call_function}
+use Rattle.mo_machine.specs.Environments.{Environment}
 use Rattle.mo_machine.specs.Frames.{Returning, Stack, Ready}
 use Rattle.mo_machine.specs.Jumps.{on_stack}
 use Rattle.mo_machine.specs.Members.{call_member}
@@ -28,7 +31,7 @@ use Rattle.mo_machine.specs.Moves.{move}
 use Rattle.mo_machine.specs.Reductions.{reduces}
 use Rattle.elaboration_values.specs.Belonging.{Known, OfFunctions, OfMember, code_in, Names, Belongs, EachBelongs}
 use Rattle.elaboration_steps.specs.Stacks.{Labels, no_labels, owed, alone, making_array, gathering_on, gathering_of, HeldAt, MemberBelongs, WorldBelongs, AtValue, Around, InFunction, InGathering, GatheringBelongs, Coming, AtNext, AtAll, Gathered}
-use Rattle.elaboration_steps.specs.Follows.{start, MoveFollows, Suits, Acts}
+use Rattle.elaboration_steps.specs.Follows.{start, MoveFollows, Suits, Acts, TrapsInBody}
 use Rattle.elaboration_steps.proofs.Entering.{call_by_follows}
 use Rattle.elaboration_steps.proofs.MemberEntries.{alone_enters}
 use Rattle.elaboration_steps.proofs.MemberCalls.{first_member}
@@ -136,14 +139,23 @@ module _ (program : Core) (context : Context) (nodes : ℕ) (held : ℕ) (known 
               subst (λ a. MemberBelongs program.groups known context.globals a holds (q.0)) y (subst (λ a. MemberBelongs program.groups known context.globals n a (q.0)) u (q.2)) in
               by_member (q.0) (q.1) (c.0) m holds (listed holds) g g.held
 
+  -- where its argument does not match, Core is in its body
+  pub closure_follows : (b : Bool) (l : Labels) (group : Functions) (which : ℕ) (env : Environment) (i : Handle) (done : List Value) (before : List core_value.Value) (next left : ℕ) (j : Stack) (others : List Frame) (cf : Focus) (ck : List Frame) → Names known (ClosureCode group which env) i → EachBelongs known done before
+      → focused program context nodes world cf ck ≡ heavier 1 (called program context nodes world (shape.Function i) (core_value.number next ∷ []) (Some (gathering_of (shape.Function i) before (suc next) left)) (Caller 0 None ∷ others)) → Around program context nodes world known b l held j others
+      → Suits known (Ready action.Call (Closure group which env ∷ leaf (part.Number (pos next)) ∷ [])) (gathering_on (Closure group which env) done (suc next) left j)
+      → (r : A (Ready action.Call (Closure group which env ∷ leaf (part.Number (pos next)) ∷ [])) (gathering_on (Closure group which env) done (suc next) left j) cf ck (on_stack store (call_function store group env group which (leaf (part.Number (pos next)) ∷ [])) (gathering_on (Closure group which env) done (suc next) left j)))
+      × TrapsInBody program context nodes (start (Ready action.Call (Closure group which env ∷ leaf (part.Number (pos next)) ∷ [])) (gathering_on (Closure group which env) done (suc next) left j)) held known world store (gathering_on (Closure group which env) done (suc next) left j) 0 cf ck
+      (on_stack store (call_function store group env group which (leaf (part.Number (pos next)) ∷ [])) (gathering_on (Closure group which env) done (suc next) left j)) r
+  closure_follows b l group which env i done before next left j others cf ck function values eq around suits =
+      call_by_follows program context nodes (start (Ready action.Call (Closure group which env ∷ leaf (part.Number (pos next)) ∷ [])) (gathering_on (Closure group which env) done (suc next) left j)) held known world store (gathering_on (Closure group which env) done (suc next) left j) worlds 0 cf ck
+      (leaf (part.Number (pos next)) ∷ []) (core_value.number next ∷ []) ((refl, tt), tt) i held (λ d. heavier 1 d) 1 (Some (gathering_of (shape.Function i) before (suc next) left)) (Caller 0 None ∷ others)
+      (λ n joins a. InGathering n b l held (Closure group which env) (shape.Function i) done before (suc next) left j joins others a function values around) (λ n s. refl) (omega arith) (omega arith) eq (omega arith) group which env function (suits (core_value.number next ∷ []) ((refl, tt), tt))
+
   call_follows : (b : Bool) (l : Labels) (f : Value) (h : core_value.Value) (done : List Value) (before : List core_value.Value) (next left : ℕ) (j : Stack) (others : List Frame) (cf : Focus) (ck : List Frame) → Belongs known f h → EachBelongs known done before
       → focused program context nodes world cf ck ≡ heavier 1 (gather program context nodes world h next (suc left) before (Caller 0 None ∷ others)) → Around program context nodes world known b l held j others
       → Suits known (Ready action.Call (f ∷ leaf (part.Number (pos next)) ∷ [])) (gathering_on f done (suc next) left j)
       → A (Ready action.Call (f ∷ leaf (part.Number (pos next)) ∷ [])) (gathering_on f done (suc next) left j) cf ck (on_stack store (actions.call store f (leaf (part.Number (pos next)) ∷ [])) (gathering_on f done (suc next) left j))
-  call_follows b l (Closure group which env) (shape.Function i) done before next left j others cf ck function values eq around suits =
-      call_by_follows program context nodes (start (Ready action.Call (Closure group which env ∷ leaf (part.Number (pos next)) ∷ [])) (gathering_on (Closure group which env) done (suc next) left j)) held known world store (gathering_on (Closure group which env) done (suc next) left j) worlds 0 cf ck
-      (leaf (part.Number (pos next)) ∷ []) (core_value.number next ∷ []) ((refl, tt), tt) i held (λ d. heavier 1 d) 1 (Some (gathering_of (shape.Function i) before (suc next) left)) (Caller 0 None ∷ others)
-      (λ n joins a. InGathering n b l held (Closure group which env) (shape.Function i) done before (suc next) left j joins others a function values around) (λ n s. refl) (omega arith) (omega arith) eq group which env function (suits (core_value.number next ∷ []) ((refl, tt), tt)) (λ e. e)
+  call_follows b l (Closure group which env) (shape.Function i) done before next left j others cf ck function values eq around suits = (closure_follows b l group which env i done before next left j others cf ck function values eq around suits).0
   call_follows b l (Closure group which env) (shape.Made i us) done before next left j others cf ck function values eq around suits = absurd function
   call_follows b l (BuiltIn m holds) (shape.Function i) done before next left j others cf ck function values eq around suits =
       member_follows b l (BuiltIn m holds) (shape.Function i) function done before values next left j others cf ck around i eq m holds function

@@ -109,7 +109,7 @@ module _ (program : Core) (context : Context) (nodes : ℕ) where
             let y : tried + 1 ≡ 2 * trying p v = tries in
             stops_then program context nodes tried before spent (2 * (n + length pattern_failed) + held) 0 (weighing m) (weighing (1 + length pattern_failed)) world cf0 ck0 _ (joins ++ ck) (Eval fails (d.0)) ((d.1) ++ (joins ++ ck)) (execution.Traps pattern_failed)
             begins (d.2 fails code.body) refl (omega (arith, lt, z, y)) (omega arith) (omega arith)
-            (λ e. let a : depth_of ((d.1) ++ (joins ++ ck)) ≡ depth_of (joins ++ ck) = joins_level (d.1) (joins ++ ck) (d.4) in let b : depth_of (joins ++ ck) ≡ depth_of ck = joins_level joins ck js in omega (arith, a, b, low))
+            (let a : depth_of ((d.1) ++ (joins ++ ck)) ≡ depth_of (joins ++ ck) = joins_level (d.1) (joins ++ ck) (d.4) in let b : depth_of (joins ++ ck) ≡ depth_of ck = joins_level joins ck js in omega (arith, a, b, low))
         go None (Some ws) a d = absurd a
         go (Some vs) None a d = absurd a
         go (Some vs) (Some ws) a d =

@@ -1,5 +1,5 @@
 -- Ways of Core to a state that belongs to one of the source, made from its end.
-use Rattle.std.proofs.Common.{◌≡◌, inl, inr, ℕ, suc, ◌+◌, ◌*◌, ◌≤◌, Bool, true, false, List, [], ◌∷◌, ◌++◌, refl, ap, arith}
+use Rattle.std.proofs.Common.{◌≡◌, ◌⊎◌, inl, inr, ℕ, suc, ◌+◌, ◌*◌, ◌≤◌, Bool, true, false, List, [], ◌∷◌, ◌++◌, refl, ap, arith}
 use Rattle.mo_values.specs.Costs.{Cost, weighing}
 use Rattle.mo_values.specs.Shapes.{Bytes}
 use Rattle.core_ir.specs.Worlds.{World, Context}
@@ -13,7 +13,7 @@ use Rattle.elaboration.specs.Meeting as meeting
 use Rattle.elaboration.specs.Meeting.{Comes, There}
 use Rattle.elaboration_values.specs.Belonging.{Known}
 use Rattle.elaboration_steps.specs.Stacks.{WorldBelongs, StateBelongs, Standing, Here}
-use Rattle.elaboration_steps.specs.Follows.{Start, rank, owed, Leads, Waits, Plainly, Doing, NoDeeper, Follows, Stops, Acts}
+use Rattle.elaboration_steps.specs.Follows.{Start, rank, owed, Leads, Waits, Plainly, Doing, NoDeeper, Follows, AsDeep, InBody, Stops, Acts}
 use Rattle.elaboration_steps.proofs.StateDepth.{no_deeper}
 
 pub nothing_more : {A : Type 0} (xs : List A) → xs ≡ xs ++ []
@@ -62,15 +62,19 @@ module _ (program : Core) (context : Context) (nodes : ℕ) where
   stops_ahead w before spent total levels world cf ck cf1 ck1 end eq deep r = record {
     moved = true;
     weight = w + r.weight;
+    through = r.through;
     cost = r.cost;
     cf' = r.cf';
     ck' = r.ck';
-    path = leads_ahead w r.moved r.weight levels [] world cf ck cf1 ck1 world r.cf' r.ck' eq deep r.path;
+    path = leads_ahead w r.moved r.weight r.through [] world cf ck cf1 ck1 world r.cf' r.ck' eq deep r.path;
     ends = r.ends;
-    level = λ e. let h : depth_of r.ck' ≤ depth_of ck1 = r.level e in omega (arith, h, deep);
+    level = at r.level;
     pays = let h : spent + w + r.weight + r.cost.weight ≤ total = r.pays in omega (arith, h);
-    light = r.light;
   }
+    where
+      at : AsDeep program context nodes levels r.through r.cost.levels ck1 r.ck' ⊎ InBody program context nodes before levels r.through r.cost.levels r.ck' → AsDeep program context nodes levels r.through r.cost.levels ck r.ck' ⊎ InBody program context nodes before levels r.through r.cost.levels r.ck'
+      at (inl (a, b, h)) = inl (a, b, omega (arith, h, deep))
+      at (inr h) = inr h
 
   -- more has been spent
   follows_sooner : (a b : ℕ) (before : Start) (total levels : ℕ) (out : List Bytes) (known : List Known) (world : World) (cf : Focus) (ck : List Frame) (store : Store) (f : machine.Focus) (k : Stack) → b ≤ a
@@ -95,7 +99,7 @@ module _ (program : Core) (context : Context) (nodes : ℕ) where
   stops_sooner : (a b : ℕ) (before : Start) (total levels : ℕ) (world : World) (cf : Focus) (ck : List Frame) (end : End Waiting) → b ≤ a
       → Stops program context nodes before a total levels world cf ck end → Stops program context nodes before b total levels world cf ck end
   stops_sooner a b before total levels world cf ck end le r =
-      record { moved = r.moved; weight = r.weight; cost = r.cost; cf' = r.cf'; ck' = r.ck'; path = r.path; ends = r.ends; level = r.level; pays = let h : a + r.weight + r.cost.weight ≤ total = r.pays in omega (arith, h, le); light = r.light }
+      record { moved = r.moved; weight = r.weight; through = r.through; cost = r.cost; cf' = r.cf'; ck' = r.ck'; path = r.path; ends = r.ends; level = r.level; pays = let h : a + r.weight + r.cost.weight ≤ total = r.pays in omega (arith, h, le) }
 
   -- after steps that leave the world as it is
   pub follows_behind : (world : World) (n : ℕ) (before : Start) (spent total levels : ℕ) (out : List Bytes) (known : List Known) (cf : Focus) (ck : List Frame) (cf1 : Focus) (ck1 : List Frame) (store : Store) (f : machine.Focus) (k : Stack) → Comes program context nodes world n cf ck cf1 ck1
@@ -218,7 +222,7 @@ module _ (program : Core) (context : Context) (nodes : ℕ) where
   pub stops : (before : Start) (spent total levels : ℕ) (cost : Cost) (world : World) (cf : Focus) (ck : List Frame) (end : End Waiting)
       → focused program context nodes world cf ck ≡ Ends cost [] world end → spent + cost.weight ≤ total → cost.levels ≤ levels → Stops program context nodes before spent total levels world cf ck end
   stops before spent total levels cost world cf ck end eq le lv =
-      record { moved = false; weight = 0; cost = cost; cf' = cf; ck' = ck; path = Waits 0 levels world cf ck; ends = eq; level = λ e. omega arith; pays = omega (arith, le); light = lv }
+      record { moved = false; weight = 0; through = levels; cost = cost; cf' = cf; ck' = ck; path = Waits 0 levels world cf ck; ends = eq; level = inl (omega arith, lv, omega arith); pays = omega (arith, le) }
 
   -- after a step, and others that leave the world as it is
   pub does_then_in : (n : ℕ) (before : Start) (spent total levels held' : ℕ) (cost : Cost) (out : List Bytes) (known known' : List Known) (world world' : World) (cf : Focus) (ck : List Frame) (cf1 : Focus) (ck1 : List Frame) (cf2 : Focus) (ck2 : List Frame) (store : Store) (f : machine.Focus) (k : Stack)
@@ -252,16 +256,37 @@ module _ (program : Core) (context : Context) (nodes : ℕ) where
   -- it ends after such steps
   pub stops_then : (n : ℕ) (before : Start) (spent total levels : ℕ) (cost last : Cost) (world : World) (cf : Focus) (ck : List Frame) (cf1 : Focus) (ck1 : List Frame) (cf2 : Focus) (ck2 : List Frame) (end : End Waiting)
       → focused program context nodes world cf ck ≡ Go cost [] world (at program context nodes cf1 ck1) → Comes program context nodes world n cf1 ck1 cf2 ck2 → focused program context nodes world cf2 ck2 ≡ Ends last [] world end
-      → spent + (cost.weight + n) + last.weight ≤ total → cost.levels ≤ levels → last.levels ≤ levels → (before.enters ≡ true → depth_of ck2 ≤ depth_of ck) → Stops program context nodes before spent total levels world cf ck end
+      → spent + (cost.weight + n) + last.weight ≤ total → cost.levels ≤ levels → last.levels ≤ levels → depth_of ck2 ≤ depth_of ck → Stops program context nodes before spent total levels world cf ck end
   stops_then n before spent total levels cost last world cf ck cf1 ck1 cf2 ck2 end eq path ends le lv last_lv level = record {
     moved = true;
     weight = cost.weight + n;
+    through = levels;
     cost = last;
     cf' = cf2;
     ck' = ck2;
     path = Doing 0 n (cost.weight + n) levels cost [] world cf ck cf ck world cf1 ck1 cf2 ck2 (There 0 cf ck) eq path (omega arith) lv;
     ends = ends;
-    level = level;
+    level = inl (omega arith, last_lv, level);
     pays = le;
-    light = last_lv;
   }
+
+  -- the same in a body that was entered
+  pub stops_in : (n : ℕ) (before : Start) (spent total levels : ℕ) (cost last : Cost) (world : World) (cf : Focus) (ck : List Frame) (cf1 : Focus) (ck1 : List Frame) (cf2 : Focus) (ck2 : List Frame) (end : End Waiting)
+      → focused program context nodes world cf ck ≡ Go cost [] world (at program context nodes cf1 ck1) → Comes program context nodes world n cf1 ck1 cf2 ck2 → focused program context nodes world cf2 ck2 ≡ Ends last [] world end
+      → spent + (cost.weight + n) + last.weight ≤ total → cost.levels ≡ 0 → last.levels ≡ 0 → 16 + nodes + depth_of ck2 ≤ before.live + 16 * levels
+      → (r : Stops program context nodes before spent total levels world cf ck end) × InBody program context nodes before levels r.through r.cost.levels r.ck'
+  stops_in n before spent total levels cost last world cf ck cf1 ck1 cf2 ck2 end eq path ends le lv last_lv level = (
+    record {
+      moved = true;
+      weight = cost.weight + n;
+      through = 0;
+      cost = last;
+      cf' = cf2;
+      ck' = ck2;
+      path = Doing 0 n (cost.weight + n) 0 cost [] world cf ck cf ck world cf1 ck1 cf2 ck2 (There 0 cf ck) eq path (omega arith) (omega (arith, lv));
+      ends = ends;
+      level = inr (refl, last_lv, level);
+      pays = le;
+    },
+    (refl, last_lv, level),
+  )

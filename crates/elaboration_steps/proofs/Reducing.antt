@@ -173,7 +173,7 @@ module _ (program : Core) (context : Context) (nodes : ℕ) (held : ℕ) (known 
       → Acts program context nodes (start (Ready a vs) k) held known world store k 0 cf ck (reduces context.head None store (Ready a vs) k)
   acting a vs k cf ck r suits =
       acts_behind program context nodes (start (Ready a vs) k) held known world store k r.weight 0 cf ck r.f' r.ck' _ r.path
-      (act_follows program context nodes (start (Ready a vs) k) held known world store k worlds_belong (0 + r.weight) r.f' r.ck' r.b r.l r.less r.others r.around r.vals (let z : 1 ≤ further (Ready a vs) = ready a vs in omega (arith, z)) a vs r.values r.may r.arguments r.level suits (λ e. e) r.acts
+      (act_follows program context nodes (start (Ready a vs) k) held known world store k worlds_belong (0 + r.weight) r.f' r.ck' r.b r.l r.less r.others r.around r.vals (let z : 1 ≤ further (Ready a vs) = ready a vs in omega (arith, z)) a vs r.values r.may r.arguments r.level suits (omega arith) r.acts
       (let h : r.weight + r.less ≤ held + spare a = r.paid in omega (arith, h)))
 
   -- the value behind the body of a `for`, and that behind the last element

@@ -115,7 +115,7 @@ module _ (program : Core) (context : Context) (nodes : ℕ) where
 
   pub ends : StopsAreRuns program context nodes
   ends before spent total levels world f k end r w d prints weight enough =
-      let t : Runs program context nodes (least r.moved) r.weight levels [] w d prints world f k world r.cf' r.ck' = ways r.moved r.weight levels [] world f k world r.cf' r.ck' r.path w d prints in
+      let t : Runs program context nodes (least r.moved) r.weight r.through [] w d prints world f k world r.cf' r.ck' = ways r.moved r.weight r.through [] world f k world r.cf' r.ck' r.path w d prints in
       record {
         steps = t.steps + 1;
         weight' = t.weight' + r.cost.weight;
@@ -124,8 +124,7 @@ module _ (program : Core) (context : Context) (nodes : ℕ) where
         by = λ more. ap (λ z. R z w d prints world (at program context nodes f k)) (let z : (t.steps + 1) + more ≡ t.steps + suc more = omega arith in z) ∙ (t.by (suc more) ∙ ap (after_step (R more) (D r.ck') t.weight' t.depth' t.prints') r.ends);
         heavy = let z : t.weight' ≤ w + r.weight = t.heavy in let y : spent + r.weight + r.cost.weight ≤ total = r.pays in omega (arith, z, y, enough);
         within =
-            let z : t.depth' ≤ max d (max (D k + 16 * levels) (D r.ck')) = t.within in
-            let y : r.cost.levels ≤ levels = r.light in
-            omega (arith, z, y);
+            let z : t.depth' ≤ max d (max (D k + 16 * r.through) (D r.ck')) = t.within in
+            omega (arith, z);
         shown = sym (nothing_more t.prints') ∙ (t.shown ∙ sym (nothing_more prints));
       }

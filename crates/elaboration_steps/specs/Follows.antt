@@ -1,6 +1,6 @@
 -- What it is that Core's machine follows the machine of typed programs: for each of its moves and reductions steps of Core, of which one
 -- at most has an effect, at no more than twice the weight.
-use Rattle.std.specs.Prelude.{◌≡◌, ◌⊎◌, ℕ, zero, suc, ◌+◌, ◌*◌, ◌≤◌, Bool, true, false, List, [], ◌∷◌, ◌++◌, length, Option, Some, None}
+use Rattle.std.specs.Prelude.{◌≡◌, ◌⊎◌, ℕ, zero, suc, ◌+◌, ◌*◌, ◌≤◌, Bool, true, false, List, [], ◌∷◌, ◌++◌, length, Some, None}
 use Rattle.std.specs.Str.{is_utf8}
 use Rattle.mo_types.specs.declared.datum.Datum.TheVariants as part
 use Rattle.mo_values.specs.Costs.{Cost, weighing}
@@ -39,26 +39,13 @@ use Rattle.elaboration_values.specs.Belonging.{Known, Belongs, EachBelongs, Envi
 pub use Rattle.elaboration_steps.specs.Stacks.{owed, further, rank}
 use Rattle.elaboration_steps.specs.Stacks.{Labels, alone, StackBelongs, WorldBelongs, StateBelongs, Standing}
 
--- where a move or a reduction begins: its rank, and whether the parameters match of a function that is called there, if one is
+-- where a move or a reduction begins: its rank, and how deep it is there
 pub record Start : Type 0 where
   pub most : ℕ
-  pub enters : Bool
-
-abbrev pub is_found : {A : Type 0} → Option A → Bool
-is_found None = false
-is_found (Some x) = true
-
-abbrev pub parameters_match : Functions → ℕ → List Value → Bool
-parameters_match NoFunction n vs = true
-parameters_match (AFunction how nodes ps body fns) zero vs = is_found (matches_all ps (shapes_list vs))
-parameters_match (AFunction how nodes ps body fns) (suc n) vs = parameters_match fns n vs
-
-abbrev pub enters_at : machine.Focus → Bool
-enters_at (Ready action.Call (Closure group which env ∷ vs)) = parameters_match group which vs
-enters_at _ = true
+  pub live : ℕ
 
 abbrev pub start : machine.Focus → Stack → Start
-start f k = record { most = rank f k; enters = enters_at f }
+start f k = record { most = rank f k; live = live_state f k }
 
 module _ (program : Core) (context : Context) (nodes : ℕ) where
   -- steps of Core, of at most such a weight and so many levels; whether there is one
@@ -92,18 +79,25 @@ module _ (program : Core) (context : Context) (nodes : ℕ) where
     pub requests : world'.requests ≡ world.requests
     pub stands : Standing program context nodes world' known' held' store f k cf' ck'
 
+  -- At its end Core is no deeper than it was; or it has entered a body, which the source counts as levels of a value.
+  abbrev pub AsDeep : (levels through last : ℕ) → List core_machine.Frame → List core_machine.Frame → Type 0
+  AsDeep levels through last ck ck' = (through ≤ levels) × (last ≤ levels) × (depth_of ck' ≤ depth_of ck)
+
+  abbrev pub InBody : Start → (levels through last : ℕ) → List core_machine.Frame → Type 0
+  InBody before levels through last ck' = (through ≡ 0) × (last ≡ 0) × (16 + nodes + depth_of ck' ≤ before.live + 16 * levels)
+
   -- Core ends so
   pub record Stops (before : Start) (spent total levels : ℕ) (world : World) (cf : core_machine.Focus) (ck : List core_machine.Frame) (end : End Waiting) : Type 0 where
     pub moved : Bool
     pub weight : ℕ
+    pub through : ℕ
     pub cost : Cost
     pub cf' : core_machine.Focus
     pub ck' : List core_machine.Frame
-    pub path : Leads moved weight levels [] world cf ck world cf' ck'
+    pub path : Leads moved weight through [] world cf ck world cf' ck'
     pub ends : focused program context nodes world cf' ck' ≡ Ends cost [] world end
-    pub level : before.enters ≡ true → depth_of ck' ≤ depth_of ck
+    pub level : AsDeep levels through cost.levels ck ck' ⊎ InBody before levels through cost.levels ck'
     pub pays : spent + weight + cost.weight ≤ total
-    pub light : cost.levels ≤ levels
 
   module _ (before : Start) (held : ℕ) (known : List Known) (world : World) (store : Store) (k0 : Stack) where
     -- a move is paid from what is held
@@ -119,6 +113,11 @@ module _ (program : Core) (context : Context) (nodes : ℕ) where
     Acts spent cf ck (Traps cost text) = Stops before spent (2 * cost.weight + held) cost.levels world cf ck (execution.Traps text)
     Acts spent cf ck (Throws cost error) = (w : core_value.Value) × Belongs known error w × Stops before spent (2 * cost.weight + held) cost.levels world cf ck (Rejects w) × WorldBelongs program.groups known context.globals store world
     Acts spent cf ck _ = Unit {0}
+
+    -- a trap comes in a body that was entered
+    abbrev pub TrapsInBody : (spent : ℕ) (cf : core_machine.Focus) (ck : List core_machine.Frame) (a : Act) → Acts spent cf ck a → Type 0
+    TrapsInBody spent cf ck (Traps cost text) r = InBody before cost.levels r.through r.cost.levels r.ck'
+    TrapsInBody spent cf ck _ r = Unit {0}
 
 -- ---- what is asked: values stand where values of their types do
 

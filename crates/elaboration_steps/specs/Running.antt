@@ -27,15 +27,15 @@ module _ (program : Core) (context : Context) (nodes : ℕ) where
     pub within : depth' ≤ max d (max (deep k + 16 * levels) (deep l))
     pub shown : prints' ≡ prints ++ out
 
-  -- it ends so
-  pub record Finishes (weight levels : ℕ) (w d : ℕ) (prints : List Bytes) (world : World) (f : Focus) (k last : List Frame) (end : End Waiting) : Type 0 where
+  -- it ends so, where values with so many levels are gone through on the way, and at the end
+  pub record Finishes (weight through last_levels : ℕ) (w d : ℕ) (prints : List Bytes) (world : World) (f : Focus) (k last : List Frame) (end : End Waiting) : Type 0 where
     pub steps : ℕ
     pub weight' : ℕ
     pub depth' : ℕ
     pub prints' : List Bytes
     pub by : (more : ℕ) → run (core_machine program) context (steps + more) w d prints world (at program context nodes f k) ≡ Over weight' depth' prints' world end
     pub heavy : weight' ≤ w + weight
-    pub within : depth' ≤ max d (max (deep k + 16 * levels) (deep last + 16 * levels))
+    pub within : depth' ≤ max d (max (deep k + 16 * through) (deep last + 16 * last_levels))
     pub shown : prints' ≡ prints
 
   abbrev pub WaysAreRuns : Type 0
@@ -46,4 +46,4 @@ module _ (program : Core) (context : Context) (nodes : ℕ) where
   abbrev pub StopsAreRuns : Type 0
   StopsAreRuns =
       (before : Start) (spent total levels : ℕ) (world : World) (f : Focus) (k : List Frame) (end : End Waiting) (r : Stops program context nodes before spent total levels world f k end)
-      → (w d : ℕ) (prints : List Bytes) (weight : ℕ) → total ≤ spent + weight → Finishes weight levels w d prints world f k r.ck' end
+      → (w d : ℕ) (prints : List Bytes) (weight : ℕ) → total ≤ spent + weight → Finishes weight r.through r.cost.levels w d prints world f k r.ck' end
