@@ -1,0 +1,4 @@
+pub mod Earlier
+pub mod Ends
+pub mod Spine
+pub mod Named
