@@ -45,8 +45,14 @@ seen_picks picks.Cells = element true
 seen_picks picks.Elements = element false
 seen_picks picks.Places = place
 
--- a call of the function as a value
+-- the function as a value that holds those of the operands, under so many names, with groups from number n on
+abbrev pub value_as : Form → Exps → (names n : ℕ) → Elaborated
+value_as f es names n =
+    let v : Elaborated = function_of f (amount es + names) (levels_from names (amount es)) n in
+    record { exp = bind_all es v.exp; groups = v.groups }
+
+-- a call of it
 abbrev pub called_as : Form → Exps → Exps → (names n : ℕ) → Elaborated
 called_as f es args names n =
-    let v : Elaborated = function_of f (amount es + names) (levels_from names (amount es)) n in
-    record { exp = core.Do core.Call (AnExp (bind_all es v.exp) args); groups = v.groups }
+    let v : Elaborated = value_as f es names n in
+    record { exp = core.Do core.Call (AnExp v.exp args); groups = v.groups }

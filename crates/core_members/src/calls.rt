@@ -4,7 +4,7 @@ ghost use Rattle.core_ir.specs.Expressions as tree;
 ghost use Rattle.core_ir.specs.View.{exps, expression};
 ghost use Rattle.elaboration.specs.Members as members;
 ghost use Rattle.elaboration.specs.Scopes as scopes;
-ghost use Rattle.core_members.specs.Seen.{called_as, seen_doing, seen_form, seen_groups};
+ghost use Rattle.core_members.specs.Seen.{called_as, seen_doing, seen_form, seen_groups, value_as};
 
 use crate::form::{Doing, MemberForm, form_of};
 use crate::operands::{bound, sum};
@@ -52,6 +52,24 @@ fn levels_from(alloc: Global, level: u32, end: u32) -> Result<Vec<u32>, Memory>
     Ok(levels)
 }
 
+// The function behind the values that it holds, under so many names.
+fn value_as(
+    alloc: Global,
+    place: Place,
+    form: MemberForm,
+    holds: Vec<Expression>,
+    names: u32,
+    groups: &mut Sequence<Group<CoreBody>>,
+) -> Result<Expression, Memory>
+    ensures made { IfOk result (λ made. expression made ≡ (value_as (seen_form form) (exps (map expression holds.items)) names (length groups.old)).exp) }
+    ensures groups { OnOk result (seen_groups groups.new ≡ seen_groups groups.old ++ (value_as (seen_form form) (exps (map expression holds.items)) names (length groups.old)).groups) }
+{
+    let all = sum(amount(holds.as_slice())?, names)?;
+    let levels = levels_from(alloc, names, all)?;
+    let function = function_as(alloc, place, form, all, levels.as_slice(), groups)?;
+    around(alloc, place, bound(alloc, holds)?, Fails::Traps, function)
+}
+
 // The function is made behind the values that it holds, and called.
 #[tactic(auto, unfolding(core_ir::specs::View::expression, core_ir::specs::View::goal))]
 fn called_as(
@@ -66,10 +84,7 @@ fn called_as(
     ensures made { IfOk result (λ made. expression made ≡ (called_as (seen_form form) (exps (map expression holds.items)) (exps (map expression arguments.items)) names (length groups.old)).exp) }
     ensures groups { OnOk result (seen_groups groups.new ≡ seen_groups groups.old ++ (called_as (seen_form form) (exps (map expression holds.items)) (exps (map expression arguments.items)) names (length groups.old)).groups) }
 {
-    let all = sum(amount(holds.as_slice())?, names)?;
-    let levels = levels_from(alloc, names, all)?;
-    let function = function_as(alloc, place, form, all, levels.as_slice(), groups)?;
-    let function = around(alloc, place, bound(alloc, holds)?, Fails::Traps, function)?;
+    let function = value_as(alloc, place, form, holds, names, groups)?;
     let mut operands = Items::new(alloc);
     operands.push(function)?;
     Ok(Expression::Do(Goal::Call, joined(operands, arguments)?))
@@ -114,4 +129,19 @@ pub fn called(
             called_as(alloc, place, form, holds, arguments, names, groups)
         }
     }
+}
+
+/// A built-in function as a value that holds those of the operands, under so many names.
+pub fn value_of(
+    alloc: Global,
+    place: Place,
+    member: Member,
+    holds: Vec<Expression>,
+    names: u32,
+    groups: &mut Sequence<Group<CoreBody>>,
+) -> Result<Expression, Memory>
+    ensures made { IfOk result (λ made. expression made ≡ (value_as (members.form_of member) (exps (map expression holds.items)) names (length groups.old)).exp) }
+    ensures groups { OnOk result (seen_groups groups.new ≡ seen_groups groups.old ++ (value_as (members.form_of member) (exps (map expression holds.items)) names (length groups.old)).groups) }
+{
+    value_as(alloc, place, form_of(member), holds, names, groups)
 }

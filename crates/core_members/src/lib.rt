@@ -8,7 +8,6 @@ mod next;
 mod operands;
 mod values;
 
-pub use calls::called;
+pub use calls::{called, value_of};
 pub use groups::add_group;
 pub use operands::bound;
-pub use values::function_of;

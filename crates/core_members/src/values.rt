@@ -4,7 +4,7 @@ ghost use Rattle.core_ir.specs.View.{expression};
 ghost use Rattle.elaboration.specs.Members as members;
 ghost use Rattle.core_members.specs.Seen.{seen_form, seen_group, seen_groups};
 
-use crate::form::{MemberForm, form_of};
+use crate::form::MemberForm;
 use crate::groups::add_group;
 use crate::next::{iterator, next};
 use crate::operands::{names_and_parameters, sum};
@@ -13,7 +13,6 @@ use core_layers::first_function;
 use mo_num::{Memory, Sequence};
 use mo_syntax::{Items, Place};
 use std::alloc::Global;
-use typed_tree::Member;
 
 // A group of one function without nodes of its own, which sees so many names.
 fn small_group(
@@ -98,19 +97,4 @@ pub(crate) fn function_as(
     let group = own_group(alloc, place, form, names, levels, groups)?;
     let number = add_group(groups, group)?;
     first_function(alloc, place, number)
-}
-
-/// A built-in function as a value, under so many names. What it holds stands in the names of these levels.
-pub fn function_of(
-    alloc: Global,
-    place: Place,
-    member: Member,
-    names: u32,
-    levels: &[u32],
-    groups: &mut Sequence<Group<CoreBody>>,
-) -> Result<Expression, Memory>
-    ensures made { IfOk result (λ made. expression made ≡ (members.function_of (members.form_of member) names levels.now (length groups.old)).exp) }
-    ensures groups { OnOk result (seen_groups groups.new ≡ seen_groups groups.old ++ (members.function_of (members.form_of member) names levels.now (length groups.old)).groups) }
-{
-    function_as(alloc, place, form_of(member), names, levels, groups)
 }

@@ -1,10 +1,8 @@
 -- Lists whose nearest item is the last.
-use Rattle.std.proofs.Common.{◌≡◌, ◌∙◌, ℕ, suc, ◌+◌, ◌<◌, ◌-◌, List, [], ◌∷◌, ◌++◌, length, map, reverse, take, refl, sym, ap}
-use Rattle.std.proofs.lemmas.List.{reverse-append, reverse-reverse, length-reverse, take_at, map-append}
+use Rattle.std.proofs.Common.{◌≡◌, ◌∙◌, ℕ, List, [], ◌∷◌, ◌++◌, length, map, reverse, take, refl, sym, ap}
+use Rattle.std.proofs.lemmas.List.{reverse-append, reverse-reverse, length-reverse, take_at}
 use Rattle.elaboration.specs.Scopes as scopes
 use Rattle.elaboration.specs.Scopes.{Scope}
-use Rattle.core_scopes.specs.declared.scope.Mark.{Mark}
-use Rattle.core_scopes.specs.Seen.{IsMark, IsWithin}
 
 pub one_more : {A : Type 0} (xs : List A) (x : A) → reverse (xs ++ x ∷ []) ≡ x ∷ reverse xs
 one_more xs x = reverse-append xs (x ∷ [])

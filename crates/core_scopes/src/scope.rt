@@ -1,7 +1,7 @@
 //! Scopes.
-ghost use Rattle.std.specs.Prelude.{◌≡◌, ◌≤◌, ◌+◌, ◌-◌, ◌∷◌, ◌++◌, [], suc, map, List, OnOk, IfOk};
+ghost use Rattle.std.specs.Prelude.{◌≡◌, ◌≤◌, ◌+◌, ◌-◌, ◌∷◌, ◌++◌, [], suc, length, map, List, ℕ, OnOk, IfOk};
 ghost use Rattle.core_ir.specs.View.{expression, goal};
-ghost use Rattle.elaboration.specs.Checks.{locals};
+ghost use Rattle.elaboration.specs.Checks.{Checked, behind, locals};
 ghost use Rattle.elaboration.specs.Scopes as scopes;
 ghost use Rattle.core_scopes.specs.Seen.{IsMark, IsWithin, seen_place, scope};
 
@@ -104,6 +104,13 @@ impl Scope {
         ensures { result ≡ self.now.names }
     {
         self.names
+    }
+
+    /// How many names of the source there are.
+    pub fn places(&self) -> usize
+        ensures { result ≡ length self.now.places }
+    {
+        self.places.len()
     }
 
     /// The value of a name of the source, which stands behind so many others.
@@ -219,7 +226,15 @@ impl Scope {
 
     /// As it was: the nearest names and labels are taken away.
     pub fn back(&mut self, mark: Mark)
-        ensures { (before : scopes.Scope) → IsMark mark before → IsWithin before self.old → self.new ≡ before }
+        ensures within { (before : scopes.Scope) → IsMark mark before → IsWithin before self.old → self.new ≡ before }
+        ensures labelled { (before : scopes.Scope) → IsMark mark before → self.old ≡ scopes.labelled before → self.new ≡ before }
+        ensures inside { (before : scopes.Scope) → IsMark mark before → self.old ≡ scopes.inside before → self.new ≡ before }
+        ensures beside { (before : scopes.Scope) (n : ℕ) → IsMark mark before → self.old ≡ scopes.beside n before → self.new ≡ before }
+        ensures beside_inside { (before : scopes.Scope) (n : ℕ) → IsMark mark before → self.old ≡ scopes.beside n (scopes.inside before) → self.new ≡ before }
+        ensures inside_beside { (before : scopes.Scope) (n : ℕ) → IsMark mark before → self.old ≡ scopes.inside (scopes.beside n before) → self.new ≡ before }
+        ensures behind { (before : scopes.Scope) (c : Checked) → IsMark mark before → self.old ≡ behind c before → self.new ≡ before }
+        ensures behind_beside { (before : scopes.Scope) (n : ℕ) (c : Checked) → IsMark mark before → self.old ≡ behind c (scopes.beside n before) → self.new ≡ before }
+        ensures inside_behind { (before : scopes.Scope) (n : ℕ) (c : Checked) → IsMark mark before → self.old ≡ scopes.inside (behind c (scopes.beside n before)) → self.new ≡ before }
     {
         self.places.truncate(mark.places);
         self.names = mark.names;

@@ -1,0 +1,4 @@
+use Rattle.core_expressions.proofs.recursion.+expression_within.Given as goal
+
+abbrev pub decreases-expression_within : goal.decreases-expression_within
+decreases-expression_within l = l.part.depth

@@ -1,0 +1,6 @@
+//! Branches, loops, labels, errors and updates of typed programs in Core.
+#![tactic(auto)]
+
+mod loops;
+
+pub use loops::{attempt, choose, endless, for_each, label, repeat, update, while_loop};

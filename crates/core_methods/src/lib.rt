@@ -1,0 +1,7 @@
+//! Bodies of methods of typed programs in Core.
+#![tactic(auto)]
+
+mod contexts;
+mod methods;
+
+pub use methods::method_bodies;

@@ -1,0 +1,2 @@
+pub mod Elaborates
+pub mod Making
