@@ -1,0 +1,3 @@
+pub mod Seq
+pub mod Lists
+pub mod Prefix

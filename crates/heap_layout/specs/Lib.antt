@@ -1,0 +1,11 @@
+pub mod Words
+pub mod Ghosts
+pub mod Blocks
+pub mod Means
+pub mod Heaps
+pub mod Later
+pub mod Fills
+pub mod Endings
+pub mod Table
+pub mod Laws
+pub mod Rows

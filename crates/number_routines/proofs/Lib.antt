@@ -1,0 +1,16 @@
+pub mod Wide
+pub mod Runs
+pub mod Naturals
+pub mod Turns
+pub mod Signs
+pub mod SignedRuns
+pub mod SignedProducts
+pub mod KindRuns
+pub mod Calculated
+pub mod Negatives
+pub mod Wraps
+pub mod WrapRuns
+pub mod Comparisons
+pub mod Kept
+pub mod PowerRuns
+pub mod PowerKinds
