@@ -16,7 +16,7 @@ use Rattle.core_ir.specs.Actor.{actor_program, core_language}
 use Rattle.core_laws.specs.Conversion.{convert_program}
 use Rattle.core_laws.specs.Converted.{world_as, Ordered}
 use Rattle.core_laws.specs.Makes.{MakesEarlier}
-use Rattle.core_laws.specs.Nested.{Nested}
+use Rattle.core_ir.specs.Nested.{Nested}
 use Rattle.core_laws.specs.Followed.{Followed}
 use Rattle.core_laws.specs.Laws.{flattened, needed}
 use Rattle.core_laws.specs.Split.{split_program}

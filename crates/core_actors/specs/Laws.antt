@@ -21,7 +21,7 @@ use Rattle.core_laws.specs.Conversion.{convert_program}
 use Rattle.core_laws.specs.Converted.{world_as, Ordered}
 use Rattle.core_laws.specs.Laws.{flattened, needed}
 use Rattle.core_laws.specs.Makes.{MakesEarlier}
-use Rattle.core_laws.specs.Nested.{Nested}
+use Rattle.core_ir.specs.Nested.{Nested}
 use Rattle.core_laws.specs.Split.{split_program}
 use Rattle.core_laws.specs.Uses.{needs_of}
 use Rattle.core_actors.specs.KeptActors.{Related, SameKept, Weighs}

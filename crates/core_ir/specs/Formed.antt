@@ -12,7 +12,8 @@ use Rattle.core_ir.specs.Code as code
 use Rattle.core_ir.specs.Code.{CodeProgram}
 use Rattle.core_ir.specs.FormedExpressions as core_form
 use Rattle.core_ir.specs.FormedCode as code_form
-use Rattle.core_ir.specs.Outward.{outward_of}
+use Rattle.core_ir.specs.Nested.{Nested}
+use Rattle.core_ir.specs.Outward.{distinct, outward_of}
 
 -- no execution from this entry breaks
 abbrev pub IsWhole : {S W : Type 0} → Stand S W → Type 0
@@ -23,7 +24,7 @@ IsWhole (Over weight depth prints w end) = ⊤
 abbrev pub IsSafe : {S W : Type 0} → Machine S W → Context → World → Entry W → Type 0
 IsSafe m context w entry = (n : ℕ) → IsWhole (execution m context n w entry)
 
--- the most functions and segments of a program together
+-- the most functions and segments of a program together: an expression goes on in a segment of its own behind each place where it waits
 abbrev pub most_functions : ℕ
 most_functions = 90000
 
@@ -73,16 +74,17 @@ module _ (own : ℕ) (p : Core) where
   abbrev pub PaidCoreGroups : List (List ℕ) → List (Group tree.Body) → Type 0
   PaidCoreGroups needs [] = ⊤
   PaidCoreGroups [] (g ∷ gs) = (2 * length g.bodies ≤ 4 * (1 + tree.nodes_of g.bodies)) × PaidCoreGroups [] gs
-  PaidCoreGroups (ns ∷ needs) (g ∷ gs) = (2 * length g.bodies + length ns ≤ 4 * (1 + tree.nodes_of g.bodies)) × PaidCoreGroups needs gs
+  PaidCoreGroups (ns ∷ needs) (g ∷ gs) = (2 * length g.bodies + length (distinct ns) ≤ 4 * (1 + tree.nodes_of g.bodies)) × PaidCoreGroups needs gs
 
   pub record FormedCore : Type 0 where
     pub groups : FormedCoreGroups 0 p.groups
+    pub nested : Nested p
     pub paid : PaidCoreGroups (outward_of (size_at p.groups) [] p.groups) p.groups
     pub methods : AllByRecursion (λ m. FormedCoreBody (length p.groups) true 0 0 m.body) p.methods
     pub save : FormedCoreBody (length p.groups) false 0 0 p.save
     pub start : FormedCoreBody (length p.groups) false 0 0 p.start
     pub named : NamedMethods p
-    pub few : counted_program (λ b. 1 + b.nodes) p ≤ most_functions
+    pub few : counted_program (λ b. 1 + core_form.points b.expression) p ≤ most_functions
 
 -- ---- structured code
 

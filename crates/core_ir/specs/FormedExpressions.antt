@@ -152,7 +152,5 @@ module _ (sizes sees : ℕ → ℕ) (globals bound : ℕ) (shared : Bool) where
   -- a body in a group of so many functions, which sees so many values
   pub record FormedBody (size seen : ℕ) (b : Body) : Type 0 where
     pub names : FormedExp (b.parameters + (size + seen)) 0 b.expression
-    pub nested : nest b.expression ≤ b.nodes
-    pub points : points b.expression ≤ b.nodes
     -- in words of a frame: the values that stand ready at once, the arguments of an action, and how deep it stands
     pub frame : b.parameters + width sizes b.expression + 2 * max 2 (arguments b.expression) + depth b.expression ≤ 4 * b.nodes + 50

@@ -1,5 +1,5 @@
 -- Which of the values that a group sees its functions name.
-use Rattle.std.specs.Prelude.{ℕ, zero, suc, ◌+◌, List, [], ◌∷◌, ◌++◌, length}
+use Rattle.std.specs.Prelude.{ℕ, zero, suc, ◌+◌, Bool, true, false, cond, nat_eq, List, [], ◌∷◌, ◌++◌, length}
 use Rattle.core_ir.specs.Choices.{nth}
 use Rattle.core_ir.specs.Programs.{Group}
 use Rattle.core_ir.specs.Expressions.{Exp, Name, Do, Functions, Loop, Label, Try, Exps, NoExp, AnExp, Goal, Choose, Match, Bind, Body}
@@ -13,6 +13,15 @@ beyond (suc n) (suc x) = beyond n x
 abbrev pub all_beyond : ℕ → List ℕ → List ℕ
 all_beyond n [] = []
 all_beyond n (x ∷ xs) = beyond n x ++ all_beyond n xs
+
+abbrev pub holds : ℕ → List ℕ → Bool
+holds n [] = false
+holds n (x ∷ xs) = cond (nat_eq x n) true (holds n xs)
+
+-- each place once
+abbrev pub distinct : List ℕ → List ℕ
+distinct [] = []
+distinct (x ∷ xs) = cond (holds x xs) (distinct xs) (x ∷ distinct xs)
 
 -- sizes tells how many functions a group has, and needs which of the values that it sees are named there
 module _ (sizes : ℕ → ℕ) (needs : List (List ℕ)) where

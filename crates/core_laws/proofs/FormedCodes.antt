@@ -9,6 +9,7 @@ use Rattle.core_ir.specs.Programs.{Group, Method, Program}
 use Rattle.core_ir.specs.Expressions as core
 use Rattle.core_ir.specs.Expressions.{Core}
 use Rattle.core_ir.specs.FormedCode as code_form
+use Rattle.core_ir.specs.FormedExpressions.{points}
 use Rattle.core_ir.specs.Code as code
 use Rattle.core_ir.specs.Code.{CodeProgram}
 use Rattle.core_ir.specs.Formed.{size_at, sees_at, global_count, counted, counted_groups, NamedMethods, FormedCoreBody, FormedCoreGroups, FormedCore, FormedCodeBody, FormedCodeGroups, FormedCode}
@@ -90,10 +91,10 @@ module _ (own : ℕ) (p : Core) where
   segments b = length b.segments
 
   abbrev counts : core.Body → ℕ
-  counts b = 1 + b.nodes
+  counts b = 1 + points b.expression
 
   one_counts : (bound : ℕ) (shared : Bool) (size seen : ℕ) (b : core.Body) → FormedCoreBody own p bound shared size seen b → segments (split_body S size seen b) ≤ counts b
-  one_counts bound shared size seen b h = let a = total_points S (sees_at p.groups) (global_count p own) bound shared size seen b h in let c = h.points in omega (arithmetic, a, c)
+  one_counts bound shared size seen b h = let a = total_points S (sees_at p.groups) (global_count p own) bound shared size seen b h in omega (arithmetic, a)
 
   bodies_count : (bound size seen : ℕ) (bs : List core.Body) → AllByRecursion (λ b. FormedCoreBody own p bound false size seen b) bs → counted segments (map (split_body S size seen) bs) ≤ counted counts bs
   bodies_count bound size seen [] h = omega arithmetic

@@ -8,7 +8,6 @@ use Rattle.core_ir.specs.FormedExpressions.{count, FormedExp, FormedAll, FormedG
 use Rattle.core_ir.specs.Formed.{FormedCoreBody, FormedCoreGroups}
 use Rattle.core_laws.specs.Laws.{FormedQualify}
 use Rattle.core_laws.specs.Makes.{Makes, MakesAll, MakesGoal, MakesBodies, MakesGroups}
-use Rattle.core_laws.specs.Nested.{NestedBodies, NestedGroups, NestedMethods}
 
 module _ (sizes sees : ℕ → ℕ) (globals bound : ℕ) (shared : Bool) where
   abbrev Under : ℕ → Type 0
@@ -47,24 +46,12 @@ module _ (own : ℕ) (p : Core) where
   bodies_make n size sees [] h = tt
   bodies_make n size sees (b ∷ bs) h = (makes _ _ _ n false (b.parameters + (size + sees)) 0 b.expression (h.0).names, bodies_make n size sees bs (h.1))
 
-  bodies_nest : (n size sees : ℕ) (bs : List Body) → AllByRecursion (λ b. FormedCoreBody own p n false size sees b) bs → NestedBodies bs
-  bodies_nest n size sees [] h = tt
-  bodies_nest n size sees (b ∷ bs) h = ((h.0).nested, bodies_nest n size sees bs (h.1))
-
   groups_make : (n : ℕ) (gs : List (Group Body)) → FormedCoreGroups own p n gs → MakesGroups n gs
   groups_make n [] h = tt
   groups_make n (g ∷ gs) h = (bodies_make n (length g.bodies) g.sees g.bodies (h.0), groups_make (suc n) gs (h.1))
 
-  groups_nest : (n : ℕ) (gs : List (Group Body)) → FormedCoreGroups own p n gs → NestedGroups gs
-  groups_nest n [] h = tt
-  groups_nest n (g ∷ gs) h = (bodies_nest n (length g.bodies) g.sees g.bodies (h.0), groups_nest (suc n) gs (h.1))
-
-  methods_nest : (n : ℕ) (ms : List (Method Body)) → AllByRecursion (λ m. FormedCoreBody own p n true 0 0 m.body) ms → NestedMethods ms
-  methods_nest n [] h = tt
-  methods_nest n (m ∷ ms) h = ((h.0).nested, methods_nest n ms (h.1))
-
 pub formed_qualify : FormedQualify
 formed_qualify own p h = (
-  record { groups = groups_nest own p 0 p.groups h.groups; methods = methods_nest own p (length p.groups) p.methods h.methods; save = h.save.nested; start = h.start.nested },
+  h.nested,
   groups_make own p 0 p.groups h.groups,
 )

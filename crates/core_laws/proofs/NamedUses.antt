@@ -11,7 +11,7 @@ use Rattle.core_ir.specs.Programs.{Group}
 use Rattle.core_ir.specs.Expressions as core
 use Rattle.core_ir.specs.Expressions.{Exp, Constant?, Name, Do, Functions, Try, Exps, NoExp, AnExp, Goal, Operate, Choose, Bind, Throw, Await, Break, Core}
 use Rattle.core_ir.specs.Formed.{size_at, PaidCoreGroups}
-use Rattle.core_ir.specs.Outward.{beyond, all_beyond, outward, outward_all, outward_goal, outward_bodies, outward_of}
+use Rattle.core_ir.specs.Outward.{beyond, all_beyond, outward, outward_all, outward_goal, outward_bodies, outward_of, distinct}
 use Rattle.core_ir.specs.Code as code
 use Rattle.core_ir.specs.Code.{Code, Stop, Let, If, Match, Loop, Label, Branch, Leave, Pass, Make, Call, Tabulate, Send, Wait, Raise, Return}
 use Rattle.core_laws.specs.Around.{Kind, way, target}
@@ -23,7 +23,7 @@ use Rattle.core_laws.specs.Uses.{holds, with_use, use_operand, use_all, picked, 
 use Rattle.core_laws.proofs.FormedCodes.{length_map, split_formed}
 use Rattle.core_laws.proofs.FoundUses.{Within}
 use Rattle.core_laws.proofs.Seen.{SeesOperand, SeesOperands, Sees, SeesSegments, SeesBodies}
-use Rattle.core_laws.proofs.UsesCounted.{Distinct, no_longer, pushed_distinct}
+use Rattle.core_laws.proofs.UsesCounted.{Distinct, no_longer, pushed_distinct, distinct_keeps}
 
 -- ---- parts of lists
 
@@ -399,11 +399,11 @@ module _ (sizes : ℕ → ℕ) where
 
 -- what a group pays, by its number
 paid_core : (ns : List (List ℕ)) (own : ℕ) (p : Core) (gs : List (Group core.Body)) → PaidCoreGroups own p ns gs → (k : ℕ) (g : Group core.Body) → slice_get gs k ≡ Some g
-    → 2 * length g.bodies + length (nth [] ns k) ≤ 4 * (1 + core.nodes_of g.bodies)
+    → 2 * length g.bodies + length (distinct (nth [] ns k)) ≤ 4 * (1 + core.nodes_of g.bodies)
 paid_core ns own p [] h k g e = absurd (let z : None ≡ Some g = e in cc)
 paid_core [] own p (x ∷ gs) h zero g e = let a = h.0 in subst (λ (g : Group core.Body). 2 * length g.bodies + 0 ≤ 4 * (1 + core.nodes_of g.bodies)) (let z : x ≡ g = cc in z) (omega (arithmetic, a))
 paid_core [] own p (x ∷ gs) h (suc k) g e = paid_core [] own p gs (h.1) k g e
-paid_core (n ∷ ns) own p (x ∷ gs) h zero g e = subst (λ (g : Group core.Body). 2 * length g.bodies + length n ≤ 4 * (1 + core.nodes_of g.bodies)) (let z : x ≡ g = cc in z) (h.0)
+paid_core (n ∷ ns) own p (x ∷ gs) h zero g e = subst (λ (g : Group core.Body). 2 * length g.bodies + length (distinct n) ≤ 4 * (1 + core.nodes_of g.bodies)) (let z : x ≡ g = cc in z) (h.0)
 paid_core (n ∷ ns) own p (x ∷ gs) h (suc k) g e = paid_core ns own p gs (h.1) k g e
 
 nodes_kept : (sizes : ℕ → ℕ) (m sees : ℕ) (bs : List core.Body) → code.nodes_of (map (split_body sizes m sees) bs) ≡ core.nodes_of bs
@@ -429,6 +429,7 @@ splitting_forms own p h =
       paid = paid_split sizes (needs_of [] (split_program p).groups) p.groups (λ k g e.
           let a = paid_core (outward_of sizes [] p.groups) own p p.groups h.paid k g e in
           let f = fit k in
-          let b = no_longer (nth [] (needs_of [] (split_program p).groups) k) (nth [] (outward_of sizes [] p.groups) k) (f.0) (f.1) in
+          let ms = nth [] (outward_of sizes [] p.groups) k in
+          let b = no_longer (nth [] (needs_of [] (split_program p).groups) k) (distinct ms) (f.0) (λ x i. distinct_keeps x ms (f.1 x i)) in
           omega (arithmetic, a, b));
     }

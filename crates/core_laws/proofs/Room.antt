@@ -35,7 +35,8 @@ module _ (nodes : ℕ) where
   Room (Looping b env ∷ k) x = (x ≤ nest b) × Room k (nest b)
   Room (Labelled ∷ k) x = Room k (suc x)
   Room (Trying b env ∷ k) x = Room k (max x (suc (nest b)))
-  Room (core.Caller n gt ∷ k) x = (x ≤ n) × Room k 0
+  -- nothing waits in what this body has called
+  Room (core.Caller n gt ∷ k) x = Room k 0
   Room (Join ∷ k) x = Room k (suc x)
 
   fewer : (k : List core.Frame) (x y : ℕ) → y ≤ x → Room k x → Room k y
@@ -44,7 +45,7 @@ module _ (nodes : ℕ) where
   fewer (Looping b env ∷ k) x y l r = let a = r.0 in (omega (arithmetic, l, a), r.1)
   fewer (Labelled ∷ k) x y l r = fewer k _ _ (omega (arithmetic, l)) r
   fewer (Trying b env ∷ k) x y l r = fewer k _ _ (omega (arithmetic, l)) r
-  fewer (core.Caller n gt ∷ k) x y l r = let a = r.0 in (omega (arithmetic, l, a), r.1)
+  fewer (core.Caller n gt ∷ k) x y l r = r
   fewer (Join ∷ k) x y l r = fewer k _ _ (omega (arithmetic, l)) r
 
   abbrev pub room_of : core.Focus → ℕ
@@ -67,7 +68,7 @@ module _ (nodes : ℕ) where
   Kept (Ends w o world (Waits on s)) = (s.nodes ≡ nodes) × (joined s.stack < nodes) × Room s.stack 0
   Kept (Ends w o world e) = Unit {0}
 
-  module _ (source : Core) (context : Context) (bodies : (k : ℕ) (g : (Group exp.Body)) (m : ℕ) (f : exp.Body) → slice_get source.groups k ≡ Some g → slice_get g.bodies m ≡ Some f → nest f.expression ≤ f.nodes) (world : World) where
+  module _ (source : Core) (context : Context) (world : World) where
     abbrev st : core.Did
     st = core.stuck source context nodes world
 
@@ -109,7 +110,7 @@ module _ (nodes : ℕ) where
     called_k f vs gt k x r =
         on_some_k (handle_of f) _ (λ h e0. on_some_k (slice_get world.groups h.group) _ (λ made e1. on_some_k (slice_get source.groups made.code) _
         (λ g e2. if_k (nat_eq (length made.seen) g.sees) _
-        (on_some_k (slice_get g.bodies h.member) _ (λ fun e3. if_k (nat_eq (length vs) fun.parameters) _ (refl, (bodies made.code g h.member fun e2 e3, gives_k k x r)))))))
+        (on_some_k (slice_get g.bodies h.member) _ (λ fun e3. if_k (nat_eq (length vs) fun.parameters) _ (refl, gives_k k x r))))))
 
     gather_k : (f : Value) (next left : ℕ) (vs : List Value) (k : List core.Frame) (x : ℕ) → Room k x → Kept (core.gather source context nodes world f next left vs k)
     gather_k f next zero vs k x r = (refl, gives_k k x r)
@@ -145,7 +146,7 @@ module _ (nodes : ℕ) where
 
     returned_k : (v : Value) (k : List core.Frame) (x : ℕ) → Room k x → Kept (core.returned source context nodes world v k)
     returned_k v [] x r = tt
-    returned_k v (core.Caller n gt ∷ k) x r = handed_k v gt k 0 (r.1)
+    returned_k v (core.Caller n gt ∷ k) x r = handed_k v gt k 0 r
     returned_k v (Arguments goal done es env ∷ k) x r = returned_k v k _ r
     returned_k v (Looping b env ∷ k) x r = returned_k v k _ (r.1)
     returned_k v (Labelled ∷ k) x r = returned_k v k _ r
@@ -219,7 +220,7 @@ module _ (nodes : ℕ) where
     give_k v (Looping b env ∷ k) r = (refl, (omega arithmetic, r.1))
     give_k v (Labelled ∷ k) r = (refl, gives_k k _ r)
     give_k v (Trying b env ∷ k) r = (refl, gives_k k _ r)
-    give_k v (core.Caller n gt ∷ k) r = handed_k v gt k 0 (r.1)
+    give_k v (core.Caller n gt ∷ k) r = handed_k v gt k 0 r
     give_k v (Join ∷ k) r = (refl, gives_k k _ r)
 
     focused_k : (f : core.Focus) (k : List core.Frame) → Room k (room_of f) → Kept (core.focused source context nodes world f k)
@@ -229,7 +230,7 @@ module _ (nodes : ℕ) where
     pub step_k : (s : core.State) → s.nodes ≡ nodes → Room s.stack (room_of s.focus) → Kept (core.step source context world s)
     step_k s e r = subst (λ n. Kept (core.focused source context n world s.focus s.stack)) (sym e) (focused_k s.focus s.stack r)
 
-  module _ (source : Core) (context : Context) (bodies : (k : ℕ) (g : (Group exp.Body)) (m : ℕ) (f : exp.Body) → slice_get source.groups k ≡ Some g → slice_get g.bodies m ≡ Some f → nest f.expression ≤ f.nodes) where
+  module _ (source : Core) (context : Context) where
     -- what a run comes to
     abbrev pub Roomy : Stand core.State core.Waiting → Type 0
     Roomy (Still w d out world s) = (s.nodes ≡ nodes) × Room s.stack (room_of s.focus)
@@ -249,12 +250,12 @@ module _ (nodes : ℕ) where
 
     pub run_k : (n : ℕ) → RunsRoomy n
     run_k zero w d out world s e r = (e, r)
-    run_k (suc n) w d out world s e r = after_k n (core.depth s) w d out (core.step source context world s) (step_k source context bodies world s e r) (run_k n)
+    run_k (suc n) w d out world s e r = after_k n (core.depth s) w d out (core.step source context world s) (step_k source context world s e r) (run_k n)
 
     -- what waits goes on
     pub answer_k : (world : World) (k : List core.Frame) (o : Given) → Room k 0 → Kept (core.enters source context world (Resumes (record { stack = k; nodes = nodes }) o))
     answer_k world k (Gets v) r = (refl, r)
-    answer_k world k (Throws e) r = heavier_k source context bodies world nodes (core.thrown source context nodes world e k) (thrown_k source context bodies world e k 0 r)
+    answer_k world k (Throws e) r = heavier_k source context world nodes (core.thrown source context nodes world e k) (thrown_k source context world e k 0 r)
 
     pub begins_k : (world : World) (paid : ℕ) (f : exp.Body) (vs : List Value) → f.nodes ≡ nodes → nest f.expression ≤ f.nodes → Kept (core.begins source context world paid f vs)
     begins_k world paid f vs e l = by (nat_eq (length vs) f.parameters)

@@ -20,7 +20,7 @@ use Rattle.core_ir.specs.Primitives.{perform}
 use Rattle.core_ir.specs.Contexts.{call_context}
 use Rattle.core_ir.specs.FormedExpressions.{nest}
 use Rattle.core_ir.specs.Formed.{IsWhole}
-use Rattle.core_laws.specs.Nested.{NestedBodies, NestedGroups, NestedMethods, Nested}
+use Rattle.core_ir.specs.Nested.{NestedMethods, Nested}
 use Rattle.core_laws.specs.Splits.{SplitsProgram}
 use Rattle.core_laws.proofs.PrimitivesPay.{heavy}
 use Rattle.core_laws.proofs.Related.{Suspended, EndFit}
@@ -197,46 +197,33 @@ module _ (sizes : ℕ → ℕ) (context : Context) (source : Core) (program : Co
   -- ---- what waits afterwards goes on alike
 
   module _ (nested : Nested source) (world : World) where
-    bodies_nested : (bs : List exp.Body) (m : ℕ) (b : exp.Body) → NestedBodies bs → slice_get bs m ≡ Some b → nest b.expression ≤ b.nodes
-    bodies_nested [] m b n e = absurd (let z : None ≡ Some b = e in cc)
-    bodies_nested (x ∷ bs) zero b n e = subst (λ (b : exp.Body). nest b.expression ≤ b.nodes) (let z : x ≡ b = cc in z) (n.0)
-    bodies_nested (x ∷ bs) (suc m) b n e = bodies_nested bs m b (n.1) e
-
-    groups_nested : (gs : List (Group exp.Body)) (k : ℕ) (g : Group exp.Body) (m : ℕ) (b : exp.Body) → NestedGroups gs → slice_get gs k ≡ Some g → slice_get g.bodies m ≡ Some b → nest b.expression ≤ b.nodes
-    groups_nested [] k g m b n e i = absurd (let z : None ≡ Some g = e in cc)
-    groups_nested (x ∷ gs) zero g m b n e i = bodies_nested g.bodies m b (subst (λ (g : Group exp.Body). NestedBodies g.bodies) (let z : x ≡ g = cc in z) (n.0)) i
-    groups_nested (x ∷ gs) (suc k) g m b n e i = groups_nested gs k g m b (n.1) e i
-
     methods_nested : (ms : List (Method exp.Body)) (m : ℕ) (x : Method exp.Body) → NestedMethods ms → slice_get ms m ≡ Some x → nest x.body.expression ≤ x.body.nodes
     methods_nested [] m x n e = absurd (let z : None ≡ Some x = e in cc)
     methods_nested (y ∷ ms) zero x n e = subst (λ (x : Method exp.Body). nest x.body.expression ≤ x.body.nodes) (let z : y ≡ x = cc in z) (n.0)
     methods_nested (y ∷ ms) (suc m) x n e = methods_nested ms m x (n.1) e
 
-    all_nested : (k : ℕ) (g : Group exp.Body) (m : ℕ) (b : exp.Body) → slice_get source.groups k ≡ Some g → slice_get g.bodies m ≡ Some b → nest b.expression ≤ b.nodes
-    all_nested k g m b e i = groups_nested source.groups k g m b nested.groups e i
-
     begin_k : (m : ℕ) (caller : Bytes) (vs : List Value) (o : Option (Method exp.Body)) → slice_get source.methods m ≡ o
         → (nodes : ℕ) × Kept nodes (on_some (core.stuck source context 0 world) o (λ method. core.begins source context world (2 + length caller) method.body (call_context caller ∷ vs)))
     begin_k m caller vs None e = (0, tt)
-    begin_k m caller vs (Some x) e = (x.body.nodes, begins_k x.body.nodes source context all_nested world (2 + length caller) x.body (call_context caller ∷ vs) refl (methods_nested source.methods m x nested.methods e))
+    begin_k m caller vs (Some x) e = (x.body.nodes, begins_k x.body.nodes source context world (2 + length caller) x.body (call_context caller ∷ vs) refl (methods_nested source.methods m x nested.methods e))
 
     entry_k : (e : Entry core.Waiting) (e' : Entry code.Waiting) → Entries e e' → (nodes : ℕ) × Kept nodes (core.enters source context world e)
     entry_k (Begins m caller vs) e' i = begin_k m caller vs (slice_get source.methods m) refl
-    entry_k (Resumes x o) e' i = (x.nodes, answer_k x.nodes source context all_nested world x.stack o (i.4))
-    entry_k Saves e' i = (source.save.nodes, begins_k source.save.nodes source context all_nested world 0 source.save [] refl nested.save)
-    entry_k (Starts kept upgraded) e' i = (source.start.nodes, begins_k source.start.nodes source context all_nested world 0 source.start (kept ++ flag_value upgraded ∷ []) refl nested.start)
+    entry_k (Resumes x o) e' i = (x.nodes, answer_k x.nodes source context world x.stack o (i.4))
+    entry_k Saves e' i = (source.save.nodes, begins_k source.save.nodes source context world 0 source.save [] refl nested.save)
+    entry_k (Starts kept upgraded) e' i = (source.start.nodes, begins_k source.start.nodes source context world 0 source.start (kept ++ flag_value upgraded ∷ []) refl nested.start)
 
-    room_after : (e : Entry core.Waiting) (e' : Entry code.Waiting) → Entries e e' → (n : ℕ) → (nodes : ℕ) × Roomy nodes source context all_nested (in_core world e n)
+    room_after : (e : Entry core.Waiting) (e' : Entry code.Waiting) → Entries e e' → (n : ℕ) → (nodes : ℕ) × Roomy nodes source context (in_core world e n)
     room_after e e' i n =
         let x = entry_k e e' i in
-        (x.0, after_k (x.0) source context all_nested n 0 0 0 [] (core.enters source context world e) (x.1) (run_k (x.0) source context all_nested n))
+        (x.0, after_k (x.0) source context n 0 0 0 [] (core.enters source context world e) (x.1) (run_k (x.0) source context n))
 
     next_entry : (nodes : ℕ) (x : Stand core.State core.Waiting) (w d w2 d2 : ℕ) (o o2 : List Bytes) (wd wd2 : World) (on : Option ℕ) (s : core.Waiting) (e2 : End code.Waiting) → x ≡ Over w d o wd (Waits on s)
-        → Roomy nodes source context all_nested x → (nodes2 k : ℕ) → Stands sizes context nodes2 source program 0 k x (Over w2 d2 o2 wd2 e2) → (v : code.Waiting) × (e2 ≡ Waits on v) × ((a : Given) → Entries (Resumes s a) (Resumes v a))
+        → Roomy nodes source context x → (nodes2 k : ℕ) → Stands sizes context nodes2 source program 0 k x (Over w2 d2 o2 wd2 e2) → (v : code.Waiting) × (e2 ≡ Waits on v) × ((a : Given) → Entries (Resumes s a) (Resumes v a))
     next_entry nodes x w d w2 d2 o o2 wd wd2 on s e2 i r nodes2 k st =
-        at (subst (Roomy nodes source context all_nested) i r) (subst (λ x. Stands sizes context nodes2 source program 0 k x (Over w2 d2 o2 wd2 e2)) i st)
+        at (subst (Roomy nodes source context) i r) (subst (λ x. Stands sizes context nodes2 source program 0 k x (Over w2 d2 o2 wd2 e2)) i st)
       where
-        at : Roomy nodes source context all_nested (Over w d o wd (Waits on s)) → Stands sizes context nodes2 source program 0 k (Over w d o wd (Waits on s)) (Over w2 d2 o2 wd2 e2)
+        at : Roomy nodes source context (Over w d o wd (Waits on s)) → Stands sizes context nodes2 source program 0 k (Over w d o wd (Waits on s)) (Over w2 d2 o2 wd2 e2)
             → (v : code.Waiting) × (e2 ≡ Waits on v) × ((a : Given) → Entries (Resumes s a) (Resumes v a))
         at r st =
             let f = st.fits in

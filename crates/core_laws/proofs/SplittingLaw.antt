@@ -12,7 +12,7 @@ use Rattle.core_ir.specs.CodeMachine as code
 use Rattle.core_ir.specs.CodeMachine.{code_machine}
 use Rattle.core_laws.specs.Carried.{with_table, IsOver, Anew, EndsAlike, StandsAlike, ShowsAlike, Carries}
 use Rattle.core_laws.specs.Laws.{SplittingCarries}
-use Rattle.core_laws.specs.Nested.{Nested}
+use Rattle.core_ir.specs.Nested.{Nested}
 use Rattle.core_laws.specs.Split.{split_program, size_at}
 use Rattle.core_laws.proofs.SplitRuns.{Stands, Ended, Close}
 use Rattle.core_laws.proofs.SplitExecutions.{Entries, split_each, split_back, split_between, split_next}

@@ -1,8 +1,8 @@
 -- Lists of places: without repetition, and within others.
-use Rattle.std.proofs.Common.{◌≡◌, ℕ, suc, ◌≤◌, refl, sym, ap, ◌∙◌, subst, List, [], ◌∷◌, ◌++◌, length, Bool, true, false, arith as arithmetic}
+use Rattle.std.proofs.Common.{◌≡◌, ℕ, suc, ◌≤◌, refl, sym, ap, ◌∙◌, subst, List, [], ◌∷◌, ◌++◌, length, Bool, true, false, arith as arithmetic, cond}
 use Rattle.std.specs.Prelude.{cond, nat_eq}
 use Rattle.std.proofs.lemmas.Bool.{eqb-true, eq-eqb}
-use Rattle.core_laws.specs.Uses.{holds}
+use Rattle.core_ir.specs.Outward.{holds, distinct}
 use Rattle.core_laws.proofs.FoundUses.{Within}
 
 -- ---- lists without repetition are no longer than what they are within
@@ -80,3 +80,15 @@ pushed_distinct x (y ∷ xs) h d = by (nat_eq y x) refl h (λ i. pushed_distinct
     by : (b : Bool) → nat_eq y x ≡ b → cond b true (holds x xs) ≡ false → (holds x xs ≡ false → Distinct (xs ++ x ∷ [])) → Distinct (y ∷ (xs ++ x ∷ []))
     by true e i f = absurd (let v : true ≡ false = i in cc)
     by false e i f = (other e xs (d.0), f i)
+
+-- ---- each place once
+
+pub distinct_keeps : (y : ℕ) (ms : List ℕ) → holds y ms ≡ true → holds y (distinct ms) ≡ true
+distinct_keeps y [] h = h
+distinct_keeps y (z ∷ ms) h = by (holds z ms) refl (nat_eq z y) refl h (distinct_keeps y ms)
+  where
+    by : (a : Bool) → holds z ms ≡ a → (b : Bool) → nat_eq z y ≡ b → cond b true (holds y ms) ≡ true → (holds y ms ≡ true → holds y (distinct ms) ≡ true) → holds y (cond a (distinct ms) (z ∷ distinct ms)) ≡ true
+    by true e true f h r = r (subst (λ n. holds n ms ≡ true) (eqb-true z y f) e)
+    by true e false f h r = r h
+    by false e true f h r = ap (λ b. cond b true (holds y (distinct ms))) f
+    by false e false f h r = ap (λ b. cond b true (holds y (distinct ms))) f ∙ r h

@@ -20,7 +20,7 @@ use Rattle.core_laws.specs.Converted.{world_as, Ordered}
 use Rattle.core_laws.specs.Followed.{Followed}
 use Rattle.core_laws.specs.FormedSplits.{FormedSplit}
 use Rattle.core_laws.specs.Makes.{MakesEarlier}
-use Rattle.core_laws.specs.Nested.{Nested}
+use Rattle.core_ir.specs.Nested.{Nested}
 use Rattle.core_laws.specs.Split.{split_program}
 use Rattle.core_laws.specs.Uses.{needs_of}
 
@@ -55,7 +55,8 @@ flattened p = convert_program (split_program p)
 abbrev pub needed : Core → List (List ℕ)
 needed p = needs_of [] (split_program p).groups
 
--- Nothing is asked but that bodies nest no more than they have nodes, and that groups make groups before them alone.
+-- Nothing is asked but that methods, the save and the start nest no more than they have nodes, and that groups make groups before them
+-- alone.
 abbrev pub PassesCarry : Type 0
 PassesCarry =
     (p : Core) → Nested p → MakesEarlier p → (executions : ℕ) (c : Context) (e : Entry tree.Waiting) (e' : Entry code.Waiting) → Anew e e'

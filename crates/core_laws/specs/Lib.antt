@@ -6,7 +6,6 @@ pub mod Uses
 pub mod Conversion
 pub mod Earlier
 pub mod Converted
-pub mod Nested
 pub mod Carried
 pub mod FormedSplits
 pub mod Laws

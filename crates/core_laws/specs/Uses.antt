@@ -1,15 +1,12 @@
 -- Which of the values that a group sees its functions use.
-use Rattle.std.specs.Prelude.{ℕ, Bool, true, false, List, [], ◌∷◌, ◌++◌, nat_eq, cond}
+use Rattle.std.specs.Prelude.{ℕ, List, [], ◌∷◌, ◌++◌, cond}
 use Rattle.core_ir.specs.declared.constant.Constant.TheVariants as constant
 use Rattle.core_ir.specs.declared.code.Operand.{Operand}
 use Rattle.core_ir.specs.declared.code.Operand.TheVariants.{Slot, Captured, Member, Global, Constant}
 use Rattle.core_ir.specs.Choices.{nth}
+pub use Rattle.core_ir.specs.Outward.{holds}
 use Rattle.core_ir.specs.Programs.{Group}
 use Rattle.core_ir.specs.Code.{Code, Stop, Let, If, Match, Loop, Label, Branch, Leave, Pass, Make, Call, Tabulate, Send, Wait, Raise, Return, Body}
-
-abbrev pub holds : ℕ → List ℕ → Bool
-holds n [] = false
-holds n (x ∷ xs) = cond (nat_eq x n) true (holds n xs)
 
 abbrev pub with_use : ℕ → List ℕ → List ℕ
 with_use x used = cond (holds x used) used (used ++ x ∷ [])

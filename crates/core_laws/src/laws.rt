@@ -17,8 +17,8 @@ pub fn conversion_keeps_form()
     ensures { ConversionForms }
 {}
 
-/// What the laws ask of programs, formed programs have: bodies nest no more than they have nodes, and groups make groups before
-/// them alone.
+/// What the laws ask of programs, formed programs have: methods, the save and the start nest no more than they have nodes, and groups make
+/// groups before them alone.
 pub fn formed_programs_qualify()
     ensures { FormedQualify }
 {}
@@ -35,7 +35,8 @@ pub fn formed_split_programs_qualify()
 {}
 
 /// A program that was split and converted does what the program does, at no more than twice the weight and no greater depth. Of the
-/// program nothing is asked but that its bodies nest no more than they have nodes, and that groups make groups before them alone.
+/// program nothing is asked but that its methods, its save and its start nest no more than they have nodes, and that groups make groups
+/// before them alone.
 pub fn passes_carry_executions()
     ensures { PassesCarry }
 {}

@@ -6,8 +6,8 @@ ghost use Rattle.core_ir.specs.CoreMachine.{core_machine};
 ghost use Rattle.core_ir.specs.Drives.{are_within};
 ghost use Rattle.core_ir.specs.Examples.{examples};
 ghost use Rattle.core_ir.specs.Formed.{FormedCore};
+ghost use Rattle.core_ir.specs.Nested.{Nested};
 ghost use Rattle.core_ir.specs.Rows.{answers, await_rows, plain_rows, refused_rows, saved, started, wanted, wanted_saved, wanted_started};
-ghost use Rattle.core_laws.specs.Nested.{Nested};
 ghost use Rattle.core_laws.specs.Rows.{all_counted, flat_examples, split_examples};
 
 /// With groups that see what they use.

@@ -11,7 +11,7 @@ use Rattle.core_ir.specs.CodeMachine.{code_machine}
 use Rattle.core_ir.specs.Formed.{FormedCore}
 use Rattle.core_laws.specs.Carried.{Anew, Carries}
 use Rattle.core_laws.specs.FormedSplits.{FormedSplit}
-use Rattle.core_laws.specs.Nested.{Nested}
+use Rattle.core_ir.specs.Nested.{Nested}
 
 -- in an execution, and in each one behind it, it does what the program does, at no more than twice the weight and no greater depth
 abbrev pub DoesWithinTwice : Core → CodeProgram → Type 0
