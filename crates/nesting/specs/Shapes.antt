@@ -6,7 +6,7 @@ use Rattle.mo_values.specs.Shapes.{Leaf}
 use Rattle.typed_tree.specs.declared.action.Action.{Action}
 use Rattle.typed_tree.specs.declared.action.Action.TheVariants as action
 use Rattle.typed_tree.specs.declared.action.Member.TheVariants as member
-use Rattle.typed_tree.specs.Language.{Exp, Exps, Cases, Functions, Made, NoValue, Val, Name, Do, If, Switch, Group, Frame, Label, While, Repeat, For, Try, Update, NoExp, AnExp, NoCase, ACase, NoFunction, AFunction}
+use Rattle.typed_tree.specs.Language.{Value, Values, Exp, Exps, Cases, Functions, Made, Function, BuiltIn, NoValue, AValue, Val, Name, Do, If, Switch, Group, Frame, Label, While, Repeat, For, Try, Update, NoExp, AnExp, NoCase, ACase, NoFunction, AFunction}
 use Rattle.typed_tree.specs.Patterns.{Pat, Pats, Wildcard, Bind, Constant, Present?, Tagged, Parts, Fields, Either, NoPat, APat}
 
 -- what follows a pattern stands within each of its tests
@@ -35,12 +35,6 @@ abbrev pub is_true : Exp → Bool
 is_true (Val (Made (Leaf (part.Flag true)) NoValue)) = true
 is_true e = false
 
--- a loop that has an end, and a label of its own for it; directly under a label it is left by that one
-abbrev pub is_loop : Exp → Bool
-is_loop (While c b) = cond (is_true c) false true
-is_loop (For p e b) = true
-is_loop e = false
-
 abbrev pub is_one : Cases → Bool
 is_one (ACase p e NoCase) = true
 is_one cases = false
@@ -55,10 +49,11 @@ abbrev mutual
   nest (Switch e cases) = max (nest e) (cond (is_one cases) (nest_cases cases) (suc (nest_cases cases)))
   nest (Group fns b) = nest b
   nest (Frame n e) = nest e
-  nest (Label e) = cond (is_loop e) (nest e) (suc (nest e))
-  nest (While c b) = cond (is_true c) (nest b) (suc (max (nest c) (suc (nest b))))
+  nest (Label e) = suc (nest e)
+  -- a loop that has an end stands in a label, and a choice for its end beside its body
+  nest (While c b) = cond (is_true c) (nest b) (suc (max 1 (max (nest c) (nest b))))
   nest (Repeat b c) = suc (max 1 (max (nest b) (nest c)))
-  nest (For p e b) = suc (max (nest e) (suc (tests p + nest b)))
+  nest (For p e b) = max (nest e) (suc (max 1 (tests p + nest b)))
   nest (Try e p b) = max (nest e) (suc (tests p + nest b))
   nest (Update o e f) = max (nest e) (nest f)
 
@@ -107,9 +102,21 @@ IsWritten (action.BuiltIn member.NextKey) = ⊥
 IsWritten (action.BuiltIn member.NextChar) = ⊥
 IsWritten a = Unit {0}
 
+-- a value without functions
+abbrev mutual
+  pub IsPlain : Value → Type 0
+  IsPlain (Made head inside) = ArePlain inside
+  IsPlain (Function group which) = ⊥
+  IsPlain (BuiltIn member holds) = ⊥
+
+  pub ArePlain : Values → Type 0
+  ArePlain NoValue = Unit {0}
+  ArePlain (AValue v vs) = IsPlain v × ArePlain vs
+
 abbrev mutual
   pub Shaped : Exp → Type 0
-  Shaped (Val v) = Unit {0}
+  -- no function stands in code as a value, whose body could nest as it likes
+  Shaped (Val v) = IsPlain v
   Shaped (Name x) = Unit {0}
   Shaped (Do a es) = IsWritten a × ShapedAll es
   Shaped (If c a b) = Shaped c × Shaped a × Shaped b

@@ -14,7 +14,7 @@ use Rattle.typed_tree.specs.ProgramView.{with_context, optional_function, functi
 use Rattle.typed_tree.specs.ProgramView as view
 use Rattle.typed_tree.specs.View.{FunctionView, exps, group, expression, function}
 use Rattle.typed_tree.proofs.Views.{declaration_views}
-use Rattle.typing_rules.specs.AbstractSyntax.{Bytes, Pattern, Declaration, Declarations, Program}
+use Rattle.typing_rules.specs.AbstractSyntax.{Bytes, Pattern, Declarations, Program}
 use Rattle.typing_rules.specs.AbstractSyntax as p
 use Rattle.typing_rules.specs.Definitions.{Definitions}
 use Rattle.typing_rules.specs.Nodes as counts

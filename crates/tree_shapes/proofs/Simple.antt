@@ -6,7 +6,7 @@ use Rattle.typed_tree.specs.declared.action.Action.{Action}
 use Rattle.typed_tree.specs.Language.{Value, Exp, Exps, Cases, Val, Name, Do, If, Switch, Label, While, Repeat, For, Try, Update, NoExp, AnExp, NoCase, ACase}
 use Rattle.typed_tree.specs.Patterns.{Pat}
 use Rattle.typed_tree.specs.View.{endless}
-use Rattle.nesting.specs.Shapes.{tests, least, is_true, is_loop, is_one, nest, nest_all, nest_cases, pile, pile_all, pile_cases, IsWritten, ShapedAll, ShapedCases, Fine}
+use Rattle.nesting.specs.Shapes.{tests, least, is_true, is_one, nest, nest_all, nest_cases, pile, pile_all, pile_cases, IsPlain, IsWritten, ShapedAll, ShapedCases, Fine}
 
 -- operands and cases that nest no more than this
 pub record Few (k : ℕ) (es : Exps) : Type 0 where
@@ -25,8 +25,8 @@ is_fine k x y q h = subst (λ e. Fine k e) (sym q) h
 pub weaken : (k l : ℕ) (e : Exp) → k ≤ l → Fine k e → Fine l e
 weaken k l e m h = record { few = let x : nest e < k = h.few in omega (arith, m, x); light = let x : pile 1 1 e < k = h.light in omega (arith, m, x); shaped = h.shaped }
 
-pub value_fine : (v : Value) → Fine 1 (Val v)
-value_fine v = record { few = omega arith; light = omega arith; shaped = tt }
+pub value_fine : (v : Value) → IsPlain v → Fine 1 (Val v)
+value_fine v h = record { few = omega arith; light = omega arith; shaped = h }
 
 pub name_fine : (x : ℕ) → Fine 1 (Name x)
 name_fine x = record { few = omega arith; light = omega arith; shaped = tt }
@@ -123,47 +123,28 @@ update_fine o e f k l h i = record {
 
 -- ---- labels and loops
 
-pub label_few : (e : Exp) → nest (Label e) ≤ suc (nest e)
-label_few e = labelled_few (is_loop e) (nest e)
-
 pub label_fine : (e : Exp) (k : ℕ) → Fine k e → Fine (suc k) (Label e)
-label_fine e k h = record { few = let x : nest e < k = h.few in let y : nest (Label e) ≤ suc (nest e) = label_few e in omega (arith, x, y); light = let x : pile 1 1 e < k = h.light in omega (arith, x); shaped = h.shaped }
+label_fine e k h = record { few = let x : nest e < k = h.few in omega (arith, x); light = let x : pile 1 1 e < k = h.light in omega (arith, x); shaped = h.shaped }
 
-turns_few : (b : Bool) (c n : ℕ) → cond b n (suc (max c (suc n))) ≤ suc (max c (suc n))
+turns_few : (b : Bool) (c n : ℕ) → cond b n (suc (max 1 (max c n))) ≤ suc (max 1 (max c n))
 turns_few true c n = omega arith
 turns_few false c n = omega arith
 
-pub while_few : (c b : Exp) → nest (While c b) ≤ suc (max (nest c) (suc (nest b)))
+pub while_few : (c b : Exp) → nest (While c b) ≤ suc (max 1 (max (nest c) (nest b)))
 while_few c b = turns_few (is_true c) (nest c) (nest b)
 
 pub while_fine : (c b : Exp) (k l : ℕ) → Fine k c → Fine l b → Fine (suc (k + l)) (While c b)
 while_fine c b k l h i = record {
-  few = let x : nest c < k = h.few in let y : nest b < l = i.few in let z : nest (While c b) ≤ suc (max (nest c) (suc (nest b))) = while_few c b in omega (arith, x, y, z);
+  few = let x : nest c < k = h.few in let y : nest b < l = i.few in let z : nest (While c b) ≤ suc (max 1 (max (nest c) (nest b))) = while_few c b in omega (arith, x, y, z);
   light = let x : pile 1 1 c < k = h.light in let y : pile 1 1 b < l = i.light in omega (arith, x, y);
   shaped = (h.shaped, i.shaped);
 }
 
--- the label around it is that of the loop
-around_few : (b : Bool) (c n : ℕ) → cond (cond b false true) (cond b n (suc (max c (suc n)))) (suc (cond b n (suc (max c (suc n))))) ≤ suc (max c (suc n))
-around_few true c n = omega arith
-around_few false c n = omega arith
-
-pub label_while_few : (c b : Exp) → nest (Label (While c b)) ≤ suc (max (nest c) (suc (nest b)))
-label_while_few c b = around_few (is_true c) (nest c) (nest b)
-
 -- with a label that `continue` leaves
 pub label_while : (c b : Exp) (k l : ℕ) → Fine k c → Fine l b → Fine (suc (suc (k + l))) (Label (While c (Label b)))
 label_while c b k l h i = record {
-  few =
-      let x : nest c < k = h.few in
-      let y : nest b < l = i.few in
-      let z : nest (Label (While c (Label b))) ≤ suc (max (nest c) (suc (nest (Label b)))) = label_while_few c (Label b) in
-      let w : nest (Label b) ≤ suc (nest b) = label_few b in
-      omega (arith, x, y, z, w);
-  light =
-      let x : pile 1 1 c < k = h.light in
-      let y : pile 1 1 b < l = i.light in
-      omega (arith, x, y);
+  few = let x : nest c < k = h.few in let y : nest b < l = i.few in let z : nest (While c (Label b)) ≤ suc (max 1 (max (nest c) (suc (nest b)))) = while_few c (Label b) in omega (arith, x, y, z);
+  light = let x : pile 1 1 c < k = h.light in let y : pile 1 1 b < l = i.light in omega (arith, x, y);
   shaped = (h.shaped, i.shaped);
 }
 
@@ -177,7 +158,7 @@ endless_fine b k h = record {
 
 pub label_endless : (b : Exp) (k : ℕ) → Fine k b → Fine (suc (suc k)) (Label (endless (Label b)))
 label_endless b k h = record {
-  few = let x : nest b < k = h.few in let w : nest (Label b) ≤ suc (nest b) = label_few b in omega (arith, x, w);
+  few = let x : nest b < k = h.few in omega (arith, x);
   light = let x : pile 1 1 b < k = h.light in omega (arith, x);
   shaped = ((tt, h.shaped), ((tt, tt), tt));
 }
@@ -187,7 +168,7 @@ repeat_fine b c k l h i = record { few = let x : nest b < k = h.few in let y : n
 
 pub label_repeat : (b c : Exp) (k l : ℕ) → Fine k b → Fine l c → Fine (suc (suc (k + l))) (Label (Repeat (Label b) c))
 label_repeat b c k l h i = record {
-  few = let x : nest b < k = h.few in let y : nest c < l = i.few in let w : nest (Label b) ≤ suc (nest b) = label_few b in omega (arith, x, y, w);
+  few = let x : nest b < k = h.few in let y : nest c < l = i.few in omega (arith, x, y);
   light = let x : pile 1 1 b < k = h.light in let y : pile 1 1 c < l = i.light in omega (arith, x, y);
   shaped = (h.shaped, i.shaped);
 }
@@ -197,7 +178,7 @@ for_fine p e b m k l t h i = record { few = let x : nest e < k = h.few in let y 
 
 pub label_for : (p : Pat) (e b : Exp) (m k l : ℕ) → tests p ≤ m → Fine k e → Fine l b → Fine (suc (suc (m + k + l))) (Label (For p e (Label b)))
 label_for p e b m k l t h i = record {
-  few = let x : nest e < k = h.few in let y : nest b < l = i.few in let w : nest (Label b) ≤ suc (nest b) = label_few b in omega (arith, t, x, y, w);
+  few = let x : nest e < k = h.few in let y : nest b < l = i.few in omega (arith, t, x, y);
   light = let x : pile 1 1 e < k = h.light in let y : pile 1 1 b < l = i.light in omega (arith, t, x, y);
   shaped = (h.shaped, i.shaped);
 }

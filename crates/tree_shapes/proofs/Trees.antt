@@ -43,7 +43,7 @@ use Rattle.desugaring.specs.Nodes.{literal_at, built_in, array_method, text_meth
 use Rattle.desugaring.specs.Patterns as made
 use Rattle.desugaring.specs.Pieces.{Arranged, arranged}
 use Rattle.desugaring.specs.PrincipalBytes.{principal_bytes}
-use Rattle.nesting.specs.Shapes.{least, nest, nest_all, pile, pile_all, IsWritten, Shaped, Fine}
+use Rattle.nesting.specs.Shapes.{least, nest, nest_all, pile, pile_all, IsPlain, IsWritten, Shaped, Fine}
 use Rattle.tree_shapes.proofs.Lists.{FunctionFine, StepFine, LastFine, ArrangedFine, PieceFine, PiecesFine, sum_of, step_more, let_fine, var_fine, stable_fine, evaluated_fine, functions_fine, list_fine}
 use Rattle.tree_shapes.proofs.Patterns.{bind_tests, tests_few, all_tests_few}
 use Rattle.tree_shapes.proofs.Simple.{Few, CasesFew, is_fine, weaken, value_fine, name_fine, none_fine, do_fine, one_fine, deep_fine, two_fine, three_fine, no_operands, more_operands, if_fine, no_cases, more_cases, switch_fine, try_fine, update_fine, label_fine, while_fine, label_while, endless_fine, label_endless, repeat_fine, label_repeat, for_fine, label_for}
@@ -79,6 +79,16 @@ array_method_written x = array_written (bytes_eq x (codes "size")) (bytes_eq x (
 
 text_method_written : (x : Bytes) → IsWritten (action.BuiltIn (text_method x))
 text_method_written x = text_written (bytes_eq x (codes "size"))
+
+literal_plain : (l : Literal) → IsPlain (literal_value l)
+literal_plain literal.Unit = tt
+literal_plain literal.Null = tt
+literal_plain (literal.Flag b) = tt
+literal_plain (literal.Number n) = tt
+literal_plain (literal.Character c) = tt
+literal_plain (literal.Text x) = tt
+literal_plain (literal.Blob x) = tt
+literal_plain (literal.Actor x) = tt
 
 abbrev T : ℕ → TypedExpression → Type 0
 T k e = Fine k (expression e)
@@ -123,7 +133,7 @@ module _ (defs : Definitions) (number : Term → TypeId) where
   acts_three u a x y z k l m w r h i j = is_fine (k + l + m) _ _ (action_is (number u) a (x ∷ y ∷ z ∷ [])) (three_fine a (expression x) (expression y) (expression z) k l m w r h i j)
 
   constant_fine : (u : Term) (l : Literal) → T 1 (constant defs number u l)
-  constant_fine u l = is_fine 1 _ _ (constant_is (number u) l) (value_fine (literal_value l))
+  constant_fine u l = is_fine 1 _ _ (constant_is (number u) l) (value_fine (literal_value l) (literal_plain l))
 
   unit_fine : T 1 (unit_value defs number)
   unit_fine = constant_fine unit literal.Unit

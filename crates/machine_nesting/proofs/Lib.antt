@@ -1,0 +1,14 @@
+pub mod Sizes
+pub mod Shapes
+pub mod Counting
+pub mod Standing
+pub mod Members
+pub mod Acting
+pub mod Jumping
+pub mod Taking
+pub mod Moving
+pub mod Reducing
+pub mod Turning
+pub mod Bodies
+pub mod Calls
+pub mod Actors

@@ -1,0 +1,4 @@
+pub mod Actors
+pub mod Laws
+pub mod Sizes
+pub mod Stacks
