@@ -1,6 +1,6 @@
 -- Typed programs as programs of nested expressions, by recursion over the expression (Motoko language manual, sections "Expressions and
 -- declarations" and "Functions"). What it makes has its groups of functions in one table, those that stand inside a group before it.
-use Rattle.std.specs.Prelude.{ℕ, suc, ◌+◌, ◌-◌, List, [], ◌∷◌, ◌++◌, length, codes}
+use Rattle.std.specs.Prelude.{ℕ, suc, ◌+◌, ◌-◌, Bool, true, false, cond, List, [], ◌∷◌, ◌++◌, length, codes}
 use Rattle.mo_types.specs.declared.datum.Datum.TheVariants as part
 use Rattle.mo_values.specs.declared.operation.Operation.TheVariants as op
 use Rattle.mo_values.specs.Shapes.{Leaf}
@@ -56,6 +56,25 @@ goal_of s (action.Unwrap l) = unwrap (leaving s l)
 -- `next` of an object, called
 abbrev pub next_of : core.Exp → core.Exp
 next_of e = core.Do core.Call (one (does (primitive.Operate (op.Field (codes "next"))) (one e)))
+
+-- the next element of the object, and null leaves the loop
+abbrev pub element_of : core.Exp
+element_of = core.Do (Match constructor.Present (core.Name 0) (break_with nothing)) (one (next_of (core.Name 0)))
+
+-- a loop without an end
+abbrev pub is_true : Exp → Bool
+is_true (Val (Made (Leaf (part.Flag true)) NoValue)) = true
+is_true _ = false
+
+-- A loop is left by a label around it, if it has an end. Where its test holds, a name without use stands before its body.
+abbrev pub loop_scope : Exp → Scope → Scope
+loop_scope c s = record s { labels = cond (is_true c) s.labels (suc s.labels) }
+
+abbrev pub tested_loop : core.Exp → core.Exp → core.Exp
+tested_loop x y = core.Label (Loop (let_in (if_true x nothing (break_with nothing)) y))
+
+abbrev pub loop_of : Exp → core.Exp → core.Exp → core.Exp
+loop_of c x y = cond (is_true c) (Loop (let_in nothing y)) (tested_loop x y)
 
 abbrev pub number_of_parameters : Pats → ℕ
 number_of_parameters NoPat = 0
@@ -140,10 +159,9 @@ abbrev mutual
   -- the body of an actor's declarations
   elaborate s n (source.Frame nodes e) = elaborate s n e
   elaborate s n (source.Label e) = changed core.Label (elaborate (labelled s) n e)
-  -- `c` is left by the label around the loop
   elaborate s n (While c b) =
       let x : Elaborated = elaborate (inside s) n c in
-      joined (λ x y. core.Label (Loop (if_true x y (break_with nothing)))) x (elaborate (inside s) (n + length x.groups) b)
+      joined (λ x y. loop_of c x y) x (elaborate (beside 1 (loop_scope c s)) (n + length x.groups) b)
   elaborate s n (Repeat b c) =
       let x : Elaborated = elaborate (inside s) n b in
       joined (λ x y. core.Label (Loop (let_in x (if_true y nothing (break_with nothing))))) x (elaborate (beside 1 (inside s)) (n + length x.groups) c)
@@ -151,7 +169,7 @@ abbrev mutual
   elaborate s n (For p e b) =
       let d : Elaborated = elaborate s n e in
       let c : Checked = on_nearest p (beside 1 s) in
-      joined (λ x y. let_in x (core.Label (Loop (core.Do (Match constructor.Present (around_all c.checks fails y) (break_with nothing)) (one (next_of (core.Name 0)))))))
+      joined (λ x y. let_in x (core.Label (Loop (let_in element_of (around_all c.checks fails y)))))
       d (elaborate (inside (behind c s)) (n + length d.groups) b)
   elaborate s n (source.Try e p b) =
       let d : Elaborated = elaborate s n e in

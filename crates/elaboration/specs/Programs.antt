@@ -96,7 +96,7 @@ tuple es = does (primitive.Operate op.MakeTuple) es
 abbrev pub outside : List Place → Scope
 outside places = record { places = places; names = 0; exits = []; labels = 0 }
 
--- the hook is done under a label, which its returns leave; then come the values of the stable variables
+-- The hook is done under a label, which its returns leave; then come the values of the stable variables, and there is a node for each.
 abbrev pub hook_exp : Scope → ℕ → Hook → Elaborated
 hook_exp s n h =
     let c : Checked = on_parameters h.parameters s in
@@ -107,11 +107,11 @@ pub record SaveElaborated : Type 0 where
   pub body : Body
   pub groups : List (Group Body)
 
-abbrev pub save_of : List Place → ℕ → Option Hook → core.Exps → SaveElaborated
-save_of places n None cells = record { body = record { parameters = 0; nodes = 0; expression = tuple cells }; groups = [] }
-save_of places n (Some h) cells =
+abbrev pub save_of : (stable : ℕ) → List Place → ℕ → Option Hook → core.Exps → SaveElaborated
+save_of stable places n None cells = record { body = record { parameters = 0; nodes = stable; expression = tuple cells }; groups = [] }
+save_of stable places n (Some h) cells =
     let d : Elaborated = hook_exp (outside places) n h in
-    record { body = record { parameters = 0; nodes = h.nodes; expression = let_in d.exp (tuple cells) }; groups = d.groups }
+    record { body = record { parameters = 0; nodes = stable + h.nodes; expression = let_in d.exp (tuple cells) }; groups = d.groups }
 
 -- the values of the declared names; where this is an upgrade, the hook, which is one of so many functions, comes before
 abbrev pub start_end : Scope → ℕ → ℕ → List Place → Option Hook → Elaborated
@@ -133,7 +133,7 @@ module _ (methods kept : ℕ) where
       let known : List Place = replicate (count fns) Nowhere ++ (numbered (suc (suc methods)) places ++ replicate kept Nowhere) in
       let e : Elaborated = start_end s n (count fns) places (hook_of after fns) in
       let m : BodiesElaborated = elaborate_functions (outside known) (n + length e.groups) (firsts methods fns) in
-      let v : SaveElaborated = save_of known (n + length e.groups + length m.groups) (hook_of before fns) (held_in known (cells_of cells)) in
+      let v : SaveElaborated = save_of kept known (n + length e.groups + length m.groups) (hook_of before fns) (held_in known (cells_of cells)) in
       record { start = e.exp; groups = e.groups ++ (m.groups ++ v.groups); methods = m.bodies; save = v.body }
 
   -- what is made before, around the start

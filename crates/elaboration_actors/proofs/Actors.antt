@@ -11,7 +11,7 @@ use Rattle.mo_values.specs.Alike.{AlikeAll}
 use Rattle.mo_values.specs.Shapes.{Bytes, Error, shapes}
 use Rattle.mo_actor.specs.Completions.{activation_after, committed, open_call}
 use Rattle.mo_actor.specs.CallAnswers.{Received, Reply, Reject, reply_value, received_value, reply_reading, received_reading, filled, broken_by, broken, resumed, answering, future_value, value_in_state, no_effects}
-use Rattle.mo_actor.specs.Executions.{Execution, ReadingCost, after_reading, trapping}
+use Rattle.mo_actor.specs.Executions.{Completes, Execution, ReadingCost, after_reading, trapping}
 use Rattle.mo_actor.specs.IncomingCalls.{arrived, entered_body, entered}
 use Rattle.mo_actor.specs.Languages.{Language}
 use Rattle.mo_actor.specs.Measures.{Measure}
@@ -52,12 +52,14 @@ use Rattle.elaboration_runs.specs.Waiting.{SameState}
 use Rattle.elaboration_actors.specs.Bodies.{Follows, GivenBelongs, FieldsBelong, EffectsBelong, SameMethod}
 use Rattle.elaboration_actors.specs.Saving.{SavingBelongs}
 use Rattle.elaboration_actors.specs.Actors.{SameMessages, ReadBelongs, StatesBelong, CallsBelongTogether, WaitsBelong, HeldBelong, globals, context_with, MethodsBelong, Begun, Related, Weighs, SoundActor, StartsAndSaves, ActorsKeep}
+use Rattle.elaboration_actors.specs.Back.{StartsAndSavesEnd}
+use Rattle.elaboration_actors.specs.Ends.{EndsToo}
 use Rattle.elaboration_actors.specs.Laws.{SameSurroundings}
 use Rattle.elaboration_actors.proofs.Calls.{MaybeGiven, values_same, Each, each_of, held_of, as_many, states_same, each_at, each_set, each_arrived, each_owner, each_left, each_grows, calls_alike, endings_alike}
-use Rattle.elaboration_actors.proofs.Entries.{methods}
-use Rattle.elaboration_actors.proofs.Incompatible.{incompatible_follow}
-use Rattle.elaboration_actors.proofs.Results.{comes_out, trapping_follows, at_once_follows, reading_follows}
-use Rattle.elaboration_actors.proofs.Resumptions.{resumptions}
+use Rattle.elaboration_actors.proofs.Entries.{methods, methods_end}
+use Rattle.elaboration_actors.proofs.Incompatible.{incompatible_follow, incompatible_end}
+use Rattle.elaboration_actors.proofs.Results.{comes_out, trapping_ends, trapping_follows, at_once_follows, reading_follows}
+use Rattle.elaboration_actors.proofs.Resumptions.{resumptions, resumptions_end}
 
 adds_up : (y w a b c : ℕ) → y ≤ a → w ≤ b → c ≡ a + b → y + w ≤ c
 adds_up y w a b c h i e = omega (arith, h, i, e)
@@ -308,6 +310,22 @@ module _ (times : ℕ) (one : 1 ≤ times) (coding : Coding) (types : Types) (p 
             methods messages core own b.table Own-names (surroundings coding types own a.table) times one around K0 a.store b.store al.related.fields entry m (method_here Own-names K0 a.store.exports b.table entry m e) caller vs ws (r K0)
             (s.1 e.group e.which e.env e.function e.is e.same.there K0 (call_context caller ∷ ws) ((refl, ((refl, tt), tt)), r K0)) (s.0)
 
+    enters_end : (query called : Bool) (name caller argument : Bytes) (entry : Entry) (m : MethodEntry) → method_from 0 query name p.methods ≡ Some entry → Allowed (event.Call called name caller argument) → SameMethod core (context_with coding types p core messages own Own-names) K0 a.store.exports entry m
+        → EndsToo (entered P own a entry caller argument) (entered Q own b m caller argument)
+    enters_end query called name caller argument entry m is allowed e =
+        subst (λ ps. EndsToo (entered P own a entry caller argument) (after_reading (messages.reading_cost ps argument) (entered_body Q own b (core_actor.entered (core_machine.core_machine core) messages core m caller (messages.read ps argument))))) (sym e.parameters)
+        (λ h. by (read_values coding types entry.parameters argument) (messages.read entry.parameters argument) refl (same.read entry.parameters argument) h)
+      where
+        by : (o : Option (List language.Value)) (o' : Option (List core_value.Value)) → read_values coding types entry.parameters argument ≡ o → ReadBelongs o o'
+            → EndsToo (entered_body P own a (states.entered entry caller o)) (entered_body Q own b (core_actor.entered (core_machine.core_machine core) messages core m caller o'))
+        by None None i r h = trapping_ends (codes "bad argument")
+        by None (Some ws) i r h = absurd r
+        by (Some vs) None i r h = absurd r
+        by (Some vs) (Some ws) i r h =
+            let s = sound.enters a al.related.safe query called name caller argument entry is allowed vs i in
+            methods_end messages core own b.table Own-names (surroundings coding types own a.table) times one around K0 a.store b.store al.related.fields entry m (method_here Own-names K0 a.store.exports b.table entry m e) caller vs ws (r K0)
+            (s.1 e.group e.which e.env e.function e.is e.same.there K0 (call_context caller ∷ ws) ((refl, ((refl, tt), tt)), r K0)) (s.0) h
+
     dead_length : length (b.activations ++ IsDead ∷ []) ≡ length (a.activations ++ IsDead ∷ [])
     dead_length = one_more b.activations IsDead ∙ ap suc (lengths a.activations b.activations al.activations) ∙ sym (one_more a.activations IsDead)
 
@@ -361,6 +379,24 @@ module _ (times : ℕ) (one : 1 ≤ times) (coding : Coding) (types : Types) (p 
 
       queries : AlikeMethods Queries (P.query name) (Q.query name)
       queries = methods_by Is-method Queries (method_from 0 true name p.methods) (core_actor.method_from 0 true name core.methods) (al.related.methods true name) query
+
+      -- ---- where theirs end
+
+      abbrev Updates-end : Entry → MethodEntry → Type 0
+      Updates-end e n = (caller argument : List ℕ) → Allowed (event.Call false name caller argument) → EndsToo (entered P own a e caller argument) (entered Q own b n caller argument)
+
+      abbrev Queries-end : Entry → MethodEntry → Type 0
+      Queries-end e n = (query : Bool) (caller argument : List ℕ) → Allowed (event.Call query name caller argument) → EndsToo (entered P own a e caller argument) (entered Q own b n caller argument)
+
+      pub updates_end : AlikeMethods Updates-end (P.update name) (Q.update name)
+      updates_end =
+          methods_by Is-method Updates-end (method_from 0 false name p.methods) (core_actor.method_from 0 false name core.methods) (al.related.methods false name)
+          (λ e m is i caller argument allowed. enters_end false false name caller argument e m is allowed i)
+
+      pub queries_end : AlikeMethods Queries-end (P.query name) (Q.query name)
+      queries_end =
+          methods_by Is-method Queries-end (method_from 0 true name p.methods) (core_actor.method_from 0 true name core.methods) (al.related.methods true name)
+          (λ e m is i called caller argument allowed. enters_end true called name caller argument e m is allowed i)
 
     -- ---- answers
 
@@ -421,8 +457,23 @@ module _ (times : ℕ) (one : 1 ≤ times) (coding : Coding) (types : Types) (p 
       resumes_follow received allowed (Some v) (Some w) i r None (Some q) k s = absurd s
       resumes_follow received allowed (Some v) (Some w) i r (Some q) None k s = absurd s
       resumes_follow received allowed (Some v) (Some w) i r (Some x) (Some y) k s =
-          let z = sound.resumes a al.related.safe number c (there, is_open) received allowed v i x k in
+          let z = sound.resumes a al.related.safe number c (there, is_open) received allowed v i x k s.future s.focus in
           resumptions messages core own (set_state b.table number (Answered (Some w))) Own-names (surroundings coding types own (set_state a.table number (Answered (Some v)))) times one (answer_around v w r) K0 a.store b.store al.related.fields x y s (z.1) v w r (z.0)
+
+      resumes_end : (received : Received) → Allowed (answer_event number received) → (v : Option Given) (w : Option worlds.Given) → received_value P own a c received ≡ v → MaybeGiven core own Own-names K0 v w → (x : Option Waiting) (y : Option (Pending core_machine.Waiting)) → Old ≡ x → WaitsBelong core own Own-names K0 x y
+          → EndsToo (resumed P own a number v x) (resumed Q own b number w y)
+      resumes_end received allowed None None i r x y k s h = trapping_ends (codes "bad reply")
+      resumes_end received allowed None (Some w) i r x y k s h = absurd r
+      resumes_end received allowed (Some v) None i r x y k s h = absurd r
+      resumes_end received allowed (Some v) (Some w) i r None None k s h = (0, Completes (no_effects b), refl)
+      resumes_end received allowed (Some v) (Some w) i r None (Some q) k s h = absurd s
+      resumes_end received allowed (Some v) (Some w) i r (Some q) None k s h = absurd s
+      resumes_end received allowed (Some v) (Some w) i r (Some x) (Some y) k s h =
+          let z = sound.resumes a al.related.safe number c (there, is_open) received allowed v i x k s.future s.focus in
+          resumptions_end messages core own (set_state b.table number (Answered (Some w))) Own-names (surroundings coding types own (set_state a.table number (Answered (Some v)))) times one (answer_around v w r) K0 a.store b.store al.related.fields x y s (z.1) v w r (z.0) h
+
+      pub answers_end : (received : Received) → Allowed (answer_event number received) → EndsToo (answering P own a number c received) (answering Q own b number d received)
+      answers_end received allowed h = resumes_end received allowed (received_value P own a c received) (received_value Q own b d received) refl (value_same received) Old New refl waits h
 
       module _ (received : Received) (allowed : Allowed (answer_event number received)) where
         abbrev value : Option Given
@@ -510,3 +561,20 @@ module _ (times : ℕ) (one : 1 ≤ times) (coding : Coding) (types : Types) (p 
     answers = λ a b al number c d there here is_open opened received allowed r h.
         let z = answer a b al number c d there here is_open received allowed r h in (z.0, z.1, z.2, broken_related a b al number c d there here is_open);
   }
+
+  module _ (ending : StartsAndSavesEnd times coding types p first own Allowed Safe Fits core messages memory) where
+    pub saving_ends : (number : ℕ) → Allowed (event.Upgrade number) → (a : Actor machine) (b : Actor L) → Alike a b → EndsToo (saving P own a) (saving Q own b)
+    saving_ends number allowed a b al =
+        subst (λ n. EndsToo (saving P own a) (cond (nat_eq n 0) (Q.save own b.store) (trapping (codes "outstanding calls")))) (sym ((as_many core own b.store.names al.related.known a.table.first a.table.calls b.table.calls a.activations b.activations (eachs a b al)).1))
+        (by (nat_eq (open_count a.table) 0))
+      where
+        by : (o : Bool) → EndsToo (cond o (P.save own a.store) (trapping (codes "outstanding calls"))) (cond o (Q.save own b.store) (trapping (codes "outstanding calls")))
+        by true h = ending.saves number allowed a al.related.safe al.related.known b.store al.related.fields al.related.saving h
+        by false h = trapping_ends (codes "outstanding calls")
+
+    starts_so : (kept : Kept) → Fits kept → (o : Option (List (Option language.Value))) → all_kept (all_taken coding kept.types types kept.variables p.stable) ≡ o → EndsToo (P.start own (Some kept)) (Q.start own (Some kept))
+    starts_so kept fits None is h = incompatible_end coding types p core messages first memory own same kept is
+    starts_so kept fits (Some vs) is h = ending.starts kept fits vs is h
+
+    pub starts_end : (kept : Kept) → Fits kept → EndsToo (P.start own (Some kept)) (Q.start own (Some kept))
+    starts_end kept fits = starts_so kept fits (all_kept (all_taken coding kept.types types kept.variables p.stable)) refl

@@ -235,3 +235,42 @@ module _ {K : Type 0} (coding : Messages K) (program : Core) (own : Bytes) (tabl
             },
           ) (λ i. absurd cc))
       ends_belong r end (Asleep c stack shows leaves) whole light = plainly c shows configuration.Sleeps (core_actor.effects M coding program g world actor.AwaitsNothing) (paid c shows light) (left_belongs c leaves actor.AwaitsNothing actor.AwaitsNothing tt (λ i. absurd cc))
+
+      -- ---- where the execution has an end, the run has one
+
+      abbrev Has : Progress (Effects (core_language core_machine.Waiting K)) → Type 0
+      Has p = (other : Completion (Effects (core_language core_machine.Waiting K))) × (p.completion ≡ Some other)
+
+      leaves_so : actor.Ending (core_language core_machine.Waiting K) → Completion (Effects (core_language core_machine.Waiting K))
+      leaves_so h = actor_end.Completes (record { store = record { cells = world.store; groups = world.groups; names = g.names }; calls = map (core_actor.call_of M coding program) world.requests; ending = h })
+
+      replies_some : (c : Configuration) (vs : List Value) (us : List core_value.Value) (o : Option Bytes) (last : Completion (Effects machine)) → (shared_progress f results (replies s vs o c)).completion ≡ Some last → Has (core_actor.replied M coding program g results w d prints world us o)
+      unfolding leaves_so
+      replies_some c vs us None last e = absurd (let z : None ≡ Some last = e in cc)
+      replies_some c vs us (Some bytes) last e = by (nat_lt most_bytes (length bytes))
+        where
+          by : (long : Bool) → Has (core_actor.progress w d prints (core_calls.message_cost us bytes) (cond long (Some (actor_end.Traps core_calls.too_long)) (core_actor.effects M coding program g world (actor.Answers (actor.Replies bytes)))))
+          by true = (actor_end.Traps core_calls.too_long, refl)
+          by false = (leaves_so (actor.Answers (actor.Replies bytes)), refl)
+
+      rejects_some : (c : Configuration) (error : Value) (u : core_value.Value) → Belongs known' error u → (last : Completion (Effects machine)) → (X (rejects c error)).completion ≡ Some last → Has (core_actor.rejected M coding program g results w d prints world (message_in u))
+      unfolding leaves_so
+      rejects_some c (Made (Error code text) NoValue) (shape.Made i NoShape) value last e =
+          subst (λ h. Has (core_actor.rejected M coding program g results w d prints world (message_in {F = Handle} (shape.Made h NoShape)))) (value.0) (by (nat_lt most_bytes (length text)))
+        where
+          by : (long : Bool) → Has (core_actor.progress w d prints (weighing (length text)) (cond long (Some (actor_end.Traps core_calls.too_long)) (core_actor.effects M coding program g world (actor.Answers (actor.Rejects 4 text)))))
+          by true = (actor_end.Traps core_calls.too_long, refl)
+          by false = (leaves_so (actor.Answers (actor.Rejects 4 text)), refl)
+      rejects_some c (Made (Error code text) NoValue) (shape.Made i (AShape x xs)) value last e = absurd (value.1)
+      rejects_some c (Made (Error code text) NoValue) (shape.Function h) value last e = absurd value
+      rejects_some c error u value last e = absurd (let z : None ≡ Some last = e in cc)
+
+      pub ends_some : (r : Run) (end : End core_machine.Waiting) → Finish program context nodes known' w d prints world r end → (last : Completion (Effects machine)) → (X r).completion ≡ Some last → Has (Y (Over w d prints world end))
+      unfolding leaves_so
+      ends_some r end (Returned c v u shows leaves value) last e =
+          subst (λ o. Has (core_actor.replied M coding program g results w d prints world (core_actor.unpacked results u) o)) (sym (same.bytes known' results (unpacked results v) (core_actor.unpacked results u) (unpacked_belong known' results v u value)))
+          (replies_some c (unpacked results v) (core_actor.unpacked results u) (message s results (unpacked results v)) last e)
+      ends_some r end (Thrown c error u shows leaves value) last e = rejects_some c error u value last e
+      ends_some r end (Trapped c text shows) last e = (actor_end.Traps text, refl)
+      ends_some r end (Suspended c call stack shows leaves stops) last e = (leaves_so (actor.Awaits call (record { results = results; waiting = record { stack = stack; nodes = nodes } })), refl)
+      ends_some r end (Asleep c stack shows leaves) last e = (leaves_so actor.AwaitsNothing, refl)

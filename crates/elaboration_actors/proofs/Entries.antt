@@ -1,5 +1,5 @@
 -- A method of both actors: an execution of Core's shows no more than that of the typed one, and ends as it does.
-use Rattle.std.proofs.Common.{◌≡◌, ◌⊎◌, inl, inr, ℕ, zero, suc, ◌+◌, ◌*◌, ◌≤◌, List, [], ◌∷◌, length, Some, None, refl, sym, ap, ◌∙◌, subst, arith}
+use Rattle.std.proofs.Common.{◌≡◌, ◌⊎◌, inl, inr, ℕ, zero, suc, ◌+◌, ◌*◌, ◌≤◌, List, [], ◌∷◌, ◌++◌, length, Some, None, refl, sym, ap, ◌∙◌, subst, arith}
 use Rattle.mo_types.specs.declared.node.TypeId.{TypeId}
 use Rattle.mo_types.specs.Calls.{CallTable}
 use Rattle.mo_types.specs.Graph.{head_at}
@@ -12,7 +12,7 @@ use Rattle.core_ir.specs.Contexts.{call_context}
 use Rattle.core_ir.specs.Values as core_value
 use Rattle.core_ir.specs.Worlds as worlds
 use Rattle.core_ir.specs.Worlds.{World, Context}
-use Rattle.core_ir.specs.Executions.{Go, Stand, Begins, after_step, run}
+use Rattle.core_ir.specs.Executions.{Go, Over, Stand, Begins, after_step, run}
 use Rattle.core_ir.specs.Executions as execution
 use Rattle.core_ir.specs.Expressions.{Core}
 use Rattle.core_ir.specs.CoreMachine as core_machine
@@ -33,7 +33,7 @@ use Rattle.mo_machine.specs.Values.{Value, Closure, Code, load, load_list, shape
 use Rattle.mo_machine.specs.ActorLanguage.{machine, Fields, Enters}
 use Rattle.mo_machine.specs.Bodies.{beginning, entering, execution_of}
 use Rattle.mo_machine.specs.Calls as calls
-use Rattle.mo_machine.specs.Configurations.{Configuration, Traps, Run, Still, Ended, moved, weighed}
+use Rattle.mo_machine.specs.Configurations.{Configuration, Traps, Run, Still, Ended, End, moved, weighed}
 use Rattle.mo_machine.specs.Environments.{extended, with_group}
 use Rattle.mo_machine.specs.Frames as machine_frame
 use Rattle.mo_machine.specs.Frames.{Returning, Ready}
@@ -43,15 +43,17 @@ use Rattle.elaboration_steps.specs.Stacks.{WorldBelongs}
 use Rattle.elaboration_steps.proofs.Paths.{nothing_more}
 use Rattle.elaboration_runs.specs.Calling.{Surrounded}
 use Rattle.elaboration_runs.specs.Entering.{Function, Entered, paid}
-use Rattle.elaboration_runs.specs.Ending.{Trapped, Finishes, Covers}
+use Rattle.elaboration_runs.specs.Ending.{Trapped, Finish, Finishes, Covers}
 use Rattle.elaboration_runs.specs.Waiting.{Accounted}
 use Rattle.elaboration_runs.specs.Whole.{Reaches}
-use Rattle.elaboration_runs.proofs.Ending.{early, ended, covers}
+use Rattle.elaboration_runs.proofs.Ending.{IsDone, done, early, ended, covers}
 use Rattle.elaboration_runs.proofs.Entering.{entries}
 use Rattle.elaboration_actors.specs.Bodies.{Sound, Follows, FieldsBelong, EffectsBelong, SameMethod, Takes}
-use Rattle.elaboration_actors.specs.Laws.{MethodsFollow}
+use Rattle.elaboration_actors.specs.Ends.{HasEnd, EndsToo}
+use Rattle.elaboration_actors.specs.Laws.{MethodsFollow, MethodsEnd}
+use Rattle.elaboration_actors.proofs.Ends.{ends_some}
 use Rattle.elaboration_actors.proofs.Methods.{two_ways, X, Y, P, shown, by_turns}
-use Rattle.elaboration_actors.proofs.Turns.{turns_for}
+use Rattle.elaboration_actors.proofs.Turns.{turns_for, ended_by}
 
 module _ {K : Type 0} (coding : Messages K) (program : Core) (own : Bytes) (table : CallTable (List TypeId) worlds.Given) (names : List core_value.Value) (times : ℕ) (one : 1 ≤ times) (s : Surroundings) where
   abbrev context : Context
@@ -208,6 +210,65 @@ module _ {K : Type 0} (coding : Messages K) (program : Core) (own : Bytes) (tabl
               (subst (λ y. Q (XX (turns s (h.0) c0)) (YY y)) (sym (enters_core k)) (h.1)))),
         )
 
+    -- ---- where the typed method has ended, the run is over as it is
+
+    abbrev Over-so : Configuration → End → Type 0
+    Over-so d end =
+        (k : ℕ) × (w e : ℕ) × (prints : List Bytes) × (later : World) × (known' : List Known) × (last : execution.End core_machine.Waiting) × (At k ≡ Over w e prints later last) × ((more : List Known) × (known' ≡ known ++ more)) × Finish program context fn.nodes known' w e prints later (Ended d end) last
+
+    module _ (us : List (Shape Code)) (o : Entered program context known f.cells world caller e.group e.which e.env fn given taken e.method.body (Some us)) where
+      entered_over : (q : ℕ) (d : Configuration) (end : End) → steps s q (c1 us o) ≡ Ended d end → Over-so d end
+      entered_over q d end is =
+          let r : Reaches program context fn.nodes known paid0 0 [] world (Eval e.method.body.expression taken) [] (c1 us o) = reaches us o in
+          let h : IsDone program context fn.nodes s head_is (same fn.nodes) (accounted fn.nodes) known r.weight' r.depth' r.prints' world r.f' r.k' (steps s q (c1 us o)) =
+          done program context fn.nodes s head_is (same fn.nodes) (accounted fn.nodes) q 0 known (c1 us o) r.weight' r.depth' r.prints' world r.f' r.k' r.together tt
+          (λ j c' i. sound0.serves (suc j) c' (ap (then_steps s (steps s j)) (entered us o) ∙ i)) (λ j c' i. sound0.whole (suc j) c' (ap (then_steps s (steps s j)) (entered us o) ∙ i)) in
+          let fin : Finishes program context fn.nodes known r.weight' r.depth' r.prints' world r.f' r.k' (Ended d end) = subst (λ x. IsDone program context fn.nodes s head_is (same fn.nodes) (accounted fn.nodes) known r.weight' r.depth' r.prints' world r.f' r.k' x) is h in
+          (r.steps + (fin.steps + 0), fin.weight', fin.depth', fin.prints', fin.world', fin.known', fin.end, r.by (fin.steps + 0) ∙ fin.by 0, fin.grows, fin.finish)
+
+    module _ (o : Entered program context known f.cells world caller e.group e.which e.env fn given taken e.method.body None) where
+      failed_over : (q : ℕ) (d : Configuration) (end : End) → steps s (suc q) c0 ≡ Ended d end → Over-so d end
+      failed_over q d end is =
+          let fin : Finishes program context fn.nodes known paid0 0 [] world (Eval e.method.body.expression taken) [] (Ended (c2 o) (Traps pattern_failed)) = over o in (
+            fin.steps + 0,
+            fin.weight',
+            fin.depth',
+            fin.prints',
+            fin.world',
+            fin.known',
+            fin.end,
+            fin.by 0,
+            fin.grows,
+            subst (λ r. Finish program context fn.nodes fin.known' fin.weight' fin.depth' fin.prints' fin.world' r fin.end) (sym (ap (then_steps s (steps s q)) (fails o)) ∙ is) fin.finish,
+          )
+
+    over_by : (o : Found Code) → matches_all fn.parameters (shapes_list given) ≡ o → (m : ℕ) (d : Configuration) (end : End) → steps s m c0 ≡ Ended d end → Over-so d end
+    over_by o is zero d end i = absurd (let z : Still c0 ≡ Ended d end = i in cc)
+    over_by None is (suc q) d end i = failed_over (subst (λ o. Entered program context known f.cells world caller e.group e.which e.env fn given taken e.method.body o) is (both.1)) q d end i
+    over_by (Some us) is (suc q) d end i =
+        let o : Entered program context known f.cells world caller e.group e.which e.env fn given taken e.method.body (Some us) = subst (λ o. Entered program context known f.cells world caller e.group e.which e.env fn given taken e.method.body o) is (both.1) in
+        entered_over us o q d end (sym (ap (then_steps s (steps s q)) (entered us o)) ∙ i)
+
+    pub method_ends : EndsToo (execution_of s f (Enters entry caller vs)) (core_actor.run_body (core_machine.core_machine program) coding program own table g (core_actor.Enters m caller ws))
+    method_ends (n, last, is) = by (turns s n c0) refl (subst (λ c. (XX (turns s n c)).completion ≡ Some last) begins_same is)
+      where
+        by : (r : Run) → turns s n c0 ≡ r → (XX r).completion ≡ Some last → HasEnd (core_actor.run_body (core_machine.core_machine program) coding program own table g (core_actor.Enters m caller ws))
+        by (Still c) i h = absurd (let z : None ≡ Some last = h in cc)
+        by (Ended d end) i h =
+            let b = ended_by s n c0 d end i in
+            let o : Over-so d end = over_by (matches_all fn.parameters (shapes_list given)) refl (b.0) d end (b.1) in
+            let z = ends_some coding program own table names fn.nodes times one s f g fields.names_are entry.results known (same fn.nodes) o.5 o.8 o.1 o.2 o.3 o.4 (Ended d end) o.6 o.9 last h in (
+              suc (o.0),
+              z.0,
+              subst (λ ns. (core_actor.body_progress (core_machine.core_machine program) coding program g m.results (execution.execution (core_machine.core_machine program) (core_actor.context_of (core_machine.core_machine program) coding program own table ns) o.0 world (Begins m.place caller ws))).completion ≡ Some z.0) (sym fields.names_are)
+                  (subst (λ rs. (core_actor.body_progress (core_machine.core_machine program) coding program g rs (execution.execution (core_machine.core_machine program) context o.0 world (Begins m.place caller ws))).completion ≡ Some z.0) (sym e.results)
+                  (ap (λ y. (YY y).completion) (enters_core o.0 ∙ o.7) ∙ z.1)),
+            )
+
 pub methods : (coding : Messages Kept) (program : Core) (own : Bytes) (table : CallTable (List TypeId) worlds.Given) (names : List core_value.Value) (s : Surroundings) → MethodsFollow coding program own table names s
 methods coding program own table names s times one around known f g fields entry m e caller vs ws al takes sound =
     method_follows coding program own table names times one s around.head around.surrounded around.accounted known f g fields entry m e caller vs ws al takes sound
+
+pub methods_end : (coding : Messages Kept) (program : Core) (own : Bytes) (table : CallTable (List TypeId) worlds.Given) (names : List core_value.Value) (s : Surroundings) → MethodsEnd coding program own table names s
+methods_end coding program own table names s times one around known f g fields entry m e caller vs ws al takes sound =
+    method_ends coding program own table names times one s around.head around.surrounded around.accounted known f g fields entry m e caller vs ws al takes sound

@@ -1,9 +1,9 @@
 -- An upgrade to a program whose stable variables are of other types: both trap.
-use Rattle.std.proofs.Common.{ℕ, zero, suc, ◌+◌, ◌*◌, ◌≤◌, refl, sym, subst, List, [], length, Option, None, arith}
+use Rattle.std.proofs.Common.{◌≡◌, ℕ, zero, suc, ◌+◌, ◌*◌, ◌≤◌, refl, sym, subst, List, [], length, Option, Some, None, arith}
 use Rattle.std.proofs.Math.Nat.{mul-le-mul_right}
 use Rattle.mo_values.specs.Costs.{Cost}
 use Rattle.mo_values.specs.Shapes.{Bytes}
-use Rattle.mo_actor.specs.Executions.{Progress, ReadingCost, after_reading}
+use Rattle.mo_actor.specs.Executions.{Traps, Progress, ReadingCost, after_reading}
 use Rattle.core_ir.specs.Actor as core_actor
 use Rattle.core_ir.specs.CoreMachine.{core_machine}
 use Rattle.core_ir.specs.Expressions.{Core}
@@ -14,14 +14,15 @@ use Rattle.typed_tree.specs.Programs.{Program}
 use Rattle.mo_meaning.specs.Coding.{Types, Coding}
 use Rattle.mo_meaning.specs.Kernel.{Kept}
 use Rattle.mo_meaning.specs.Saving.{alone}
-use Rattle.mo_meaning.specs.Starting.{Taken, all_taken, values_of_taken, kept_cost, incompatible}
+use Rattle.mo_meaning.specs.Starting.{Taken, all_taken, all_kept, values_of_taken, kept_cost, incompatible}
 use Rattle.mo_machine.specs.ActorLanguage.{Fields}
 use Rattle.mo_machine.specs.Bodies.{beginning}
 use Rattle.mo_machine.specs.Configurations.{weighed}
 use Rattle.mo_machine.specs.Starting.{fields_progress, upgraded_from}
 use Rattle.mo_machine.specs.Turns.{turns}
 use Rattle.elaboration.specs.Playing.{as_reading}
-use Rattle.elaboration_actors.specs.Actors.{Begun}
+use Rattle.elaboration_actors.specs.Actors.{SameMessages, Begun}
+use Rattle.elaboration_actors.specs.Ends.{HasEnd}
 use Rattle.elaboration_actors.specs.Bodies.{Follows}
 use Rattle.elaboration_actors.specs.Starts.{IncompatibleFollow}
 
@@ -65,3 +66,9 @@ incompatible_follow times one coding types p code messages first memory own same
     subst (λ o. Follows times Both (Typed Both times one coding types p code messages own cost o) (Made Both times one coding types p code messages own cost (messages.restoring_cost kept) (messages.restore kept))) (sym is)
     (subst (λ o. Follows times Both (Typed Both times one coding types p code messages own cost None) (Made Both times one coding types p code messages own cost (messages.restoring_cost kept) o)) (sym (same.refuses kept is))
     (subst (λ r. Follows times Both (Typed Both times one coding types p code messages own cost None) (Made Both times one coding types p code messages own cost r None)) (sym (same.restoring kept)) (both_trap Both times one coding types p code messages own cost)))
+
+-- the second has ended
+pub incompatible_end : (coding : Coding) (types : Types) (p : Program) (code : Core) (messages : Messages Kept) (first memory : ℕ) (own : Bytes) → SameMessages coding types p messages
+    → (kept : Kept) → all_kept (all_taken coding kept.types types kept.variables p.stable) ≡ None → HasEnd ((core_actor.actor_program (core_machine code) messages code memory).start own (Some kept))
+incompatible_end coding types p code messages first memory own same kept is =
+    subst (λ o. HasEnd (after_reading (messages.restoring_cost kept) (core_actor.restarted (core_machine code) messages code own o))) (sym (same.refuses kept is)) (1, Traps incompatible, refl)

@@ -20,7 +20,6 @@ use Rattle.core_ir.specs.CoreMachine.{State}
 use Rattle.core_ir.specs.Messages.{Messages}
 use Rattle.core_ir.specs.Actor.{core_language}
 use Rattle.core_ir.specs.Actor as core_actor
-use Rattle.mo_meaning.specs.Acts.{Given}
 use Rattle.mo_meaning.specs.Configurations.{Surroundings}
 use Rattle.mo_meaning.specs.Turns.{most_bytes, too_long}
 use Rattle.mo_machine.specs.Values.{Value}

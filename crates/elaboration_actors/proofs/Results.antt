@@ -7,6 +7,7 @@ use Rattle.mo_actor.specs.Results.{Result, Completed, Trapped, Exhausted, IsPref
 use Rattle.mo_actor.specs.Passes.{AlikeResults}
 use Rattle.core_laws.proofs.ComesOut.{Covers}
 use Rattle.elaboration.proofs.Coming.{assoc}
+use Rattle.elaboration_actors.specs.Ends.{HasEnd}
 use Rattle.elaboration_actors.specs.Bodies.{CompletionsBelong, ProgressBelongs, Follows}
 
 prefixes : {A : Type 0} (a b c : List A) → IsPrefix a b → IsPrefix b c → IsPrefix a c
@@ -85,3 +86,8 @@ module _ (times : ℕ) (one : 1 ≤ times) {A B : Type 0} (Both : A → B → Ty
           completion = al.completion;
         },
       )
+
+-- ---- ends
+
+pub trapping_ends : {A : Type 0} (text : List ℕ) → HasEnd {A = A} (trapping text)
+trapping_ends text = (1, Traps text, refl)

@@ -46,7 +46,7 @@ pages_cover times pages more first memory w w' charged charged' one a m b g h =
     let i : 1 * 1 ≤ times * 1 = mul-le-mul_right 1 one in
     omega (arith, c, d, e, f, i, m, b, g, h))
 
-spent_covers : (times : ℕ) → 1 ≤ times → (steps stack pages more_steps more_pages first memory : ℕ) → times * steps ≤ more_steps → times * pages ≤ more_pages → memory ≤ times * first → (c d : ℕ) → d ≤ times * c
+pub spent_covers : (times : ℕ) → 1 ≤ times → (steps stack pages more_steps more_pages first memory : ℕ) → times * steps ≤ more_steps → times * pages ≤ more_pages → memory ≤ times * first → (c d : ℕ) → d ≤ times * c
     → Covers times (Spent steps stack pages) (Spent more_steps stack more_pages) first c memory d
 spent_covers times one steps stack pages more_steps more_pages first memory a b m c d g word.Steps w dep w' dep' wl dl h = steps_cover times steps more_steps w w' one a wl h
 spent_covers times one steps stack pages more_steps more_pages first memory a b m c d g word.Stack w dep w' dep' wl dl h = omega (arith, dl, h)
@@ -55,7 +55,7 @@ spent_covers times one steps stack pages more_steps more_pages first memory a b 
 
 -- ---- runs
 
-map_twice : {A B C : Type 0} (f : A → B) (g : B → C) (xs : List A) → map g (map f xs) ≡ map (λ x. g (f x)) xs
+pub map_twice : {A B C : Type 0} (f : A → B) (g : B → C) (xs : List A) → map g (map f xs) ≡ map (λ x. g (f x)) xs
 map_twice f g [] = refl
 map_twice f g (x ∷ xs) = ap (λ ys. g (f x) ∷ ys) (map_twice f g xs)
 

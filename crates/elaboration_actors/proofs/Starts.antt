@@ -25,7 +25,7 @@ use Rattle.mo_meaning.specs.Coding.{Types, Coding}
 use Rattle.mo_meaning.specs.Kernel.{Entry, Kept}
 use Rattle.mo_meaning.specs.Turns.{resume_name}
 use Rattle.mo_machine.specs.ActorLanguage.{Fields}
-use Rattle.mo_machine.specs.Environments.{Environment, extended, closures, with_group}
+use Rattle.mo_machine.specs.Environments.{Environment, extended, with_group}
 use Rattle.mo_machine.specs.Exports.{function_at}
 use Rattle.mo_machine.specs.Starting.{method_value, kept_value, outer_values}
 use Rattle.mo_machine.specs.Values.{Value, Made, Closure, NoValue}
@@ -38,7 +38,8 @@ use Rattle.elaboration.proofs.Coming.{reads_new, reads_more}
 use Rattle.elaboration.specs.Programs.{start_scope, own_from, kept_places, outside, numbered, firsts, method_of, methods_of, resume_method}
 use Rattle.elaboration_forms.specs.Elaborates.{HasGroups, Elaborates}
 use Rattle.elaboration_forms.proofs.Made.{elaborates}
-use Rattle.elaboration_values.specs.Belonging.{Known, OfFunctions, OfMember, Belongs, EachBelongs, EnvironmentBelongs, StandsAt}
+use Rattle.elaboration_values.specs.Belonging.{Known, OfFunctions, OfOne, OfMember, Belongs, EachBelongs, EnvironmentBelongs, StandsAt}
+use Rattle.elaboration_steps.proofs.Groups.{behind_group}
 use Rattle.elaboration_steps.specs.Stacks.{GroupBelongs, GroupsBelong}
 use Rattle.elaboration_runs.specs.Entering.{Function, function_in}
 use Rattle.elaboration_actors.specs.Actors.{Begun, context_with, globals}
@@ -77,6 +78,7 @@ module _ (known : List Known) (few all : List core_value.Value) (kept : (i : ℕ
 
   group_with : (table : List (Group Body)) (k : Known) (made : MadeGroup) → GroupBelongs table known few k made → GroupBelongs table known all k made
   group_with table (OfFunctions fns env) made r = record { places = r.places; labels = r.labels; bodies = r.bodies; there = r.there; code = r.code; names = names_with r.places env made.seen r.names }
+  group_with table (OfOne fns i env) made r = record { places = r.places; labels = r.labels; body = r.body; there = r.there; code = r.code; names = names_with r.places env made.seen r.names }
   group_with table (OfMember m holds) made r = record { n = r.n; levels = r.levels; held = r.held; there = r.there; code = r.code }
 
   groups_with : (table : List (Group Body)) (made : List MadeGroup) → GroupsBelong table known few made → GroupsBelong table known all made
@@ -113,12 +115,6 @@ module _ (known : List Known) (globals vals : List core_value.Value) where
   before_nowhere [] n x v s = nowhere_stand n x v
   before_nowhere (p ∷ places) n zero v s = s
   before_nowhere (p ∷ places) n (suc x) v s = before_nowhere places n x v s
-
-  -- behind a group that has no names
-  behind_group : (env0 : Environment) (group fns : Functions) (n : ℕ) (env : Environment) (places : List Place) → EnvironmentBelongs known globals places env vals → EnvironmentBelongs known globals (replicate (count fns) Nowhere ++ places) (closures env0 group fns n env) vals
-  behind_group env0 group NoFunction n env places h x v e = h x v e
-  behind_group env0 group (AFunction how nodes ps body fns) n env places h zero v e = tt
-  behind_group env0 group (AFunction how nodes ps body fns) n env places h (suc x) v e = behind_group env0 group fns (suc n) env places h x v e
 
 -- ---- methods by name
 

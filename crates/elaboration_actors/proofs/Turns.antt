@@ -1,8 +1,8 @@
 -- So many steps of an execution are so many of its turns: the same, or moves behind it.
-use Rattle.std.proofs.Common.{◌≡◌, ℕ, zero, suc, ◌≤◌, None, refl, sym, ap, ◌∙◌, subst, arith}
+use Rattle.std.proofs.Common.{◌≡◌, ℕ, zero, suc, ◌+◌, ◌≤◌, None, refl, sym, ap, ◌∙◌, subst, arith}
 use Rattle.mo_types.specs.Graph.{head_at}
 use Rattle.mo_meaning.specs.Configurations.{Surroundings}
-use Rattle.mo_machine.specs.Configurations.{Configuration, Returns, Run, Still, Ended, standing}
+use Rattle.mo_machine.specs.Configurations.{Configuration, Returns, Run, Still, Ended, End, standing}
 use Rattle.mo_machine.specs.Values.{Value}
 use Rattle.mo_machine.specs.Frames.{Focus, Stack}
 use Rattle.mo_machine.specs.Measure.{measure, Falls}
@@ -88,3 +88,28 @@ module _ (s : Surroundings) where
   pub turns_for : (m : ℕ) → For m
   turns_for zero c = (0, Same (Still c))
   turns_for (suc m) c = for_after m (turns_for m) c
+
+  none_before : (m : ℕ) (c : Configuration) → steps s (0 + m) c ≡ steps s m c
+  none_before m c = ap (λ i. steps s i c) (let z : 0 + m ≡ m = omega arith in z)
+
+  -- moves before a reduction are steps
+  settles_by : (fuel : ℕ) (c : Configuration) → (j : ℕ) × ((m : ℕ) → steps s (j + m) c ≡ steps s m (settle fuel c (move c.focus c.stack)))
+  settles_by zero c = (0, λ m. none_before m c)
+  settles_by (suc fuel) c = by (λ d. settles_by fuel d) (move c.focus c.stack) refl
+    where
+      by : ((d : Configuration) → (j : ℕ) × ((m : ℕ) → steps s (j + m) d ≡ steps s m (settle fuel d (move d.focus d.stack)))) → (x : Move) → move c.focus c.stack ≡ x → (j : ℕ) × ((m : ℕ) → steps s (j + m) c ≡ steps s m (settle (suc fuel) c x))
+      by go (Moved f k) e = let h = go (standing f k c) in (suc (h.0), λ m. ap (λ i. steps s i c) (let z : suc (h.0) + m ≡ suc (h.0 + m) = omega arith in z) ∙ (ap (λ x. then_steps s (steps s (h.0 + m)) (after s c (Due c) x)) e ∙ h.1 m))
+      by go (Ends v) e = (0, λ m. none_before m c)
+      by go Reduces e = (0, λ m. none_before m c)
+
+  -- what has ended after so many turns has so after some steps
+  pub ended_by : (n : ℕ) (c d : Configuration) (end : End) → turns s n c ≡ Ended d end → (m : ℕ) × (steps s m c ≡ Ended d end)
+  ended_by zero c d end e = absurd (let z : Still c ≡ Ended d end = e in cc)
+  ended_by (suc n) c d end e = by (λ c1 i. ended_by n c1 d end i) (step s (settled c)) refl
+    where
+      j : (j : ℕ) × ((m : ℕ) → steps s (j + m) c ≡ steps s m (settled c))
+      j = settles_by (measure c.focus c.stack) c
+
+      by : ((c1 : Configuration) → turns s n c1 ≡ Ended d end → (m : ℕ) × (steps s m c1 ≡ Ended d end)) → (r : Run) → step s (settled c) ≡ r → (m : ℕ) × (steps s m c ≡ Ended d end)
+      by go (Still c1) i = let h = go c1 (sym (ap (then_steps s (turns s n)) i) ∙ e) in (j.0 + suc (h.0), j.1 (suc (h.0)) ∙ (ap (then_steps s (steps s (h.0))) i ∙ h.1))
+      by go (Ended c1 x) i = (j.0 + 1, j.1 1 ∙ (ap (then_steps s (steps s 0)) i ∙ (sym (ap (then_steps s (turns s n)) i) ∙ e)))

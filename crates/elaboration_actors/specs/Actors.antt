@@ -5,7 +5,7 @@ use Rattle.play_script.specs.declared.event.Event.{Event}
 use Rattle.play_script.specs.declared.event.Event.TheVariants as event
 use Rattle.mo_types.specs.declared.node.TypeId.{TypeId}
 use Rattle.mo_types.specs.Calls.{State, Open, Answered, Lost, Call, is_open_state, call_at, set_state, no_calls}
-use Rattle.mo_values.specs.Shapes.{Bytes}
+use Rattle.mo_values.specs.Shapes.{Bytes, Future}
 use Rattle.mo_actor.specs.CallAnswers.{Received, received_value, filled, broken, answering}
 use Rattle.mo_actor.specs.Completions.{committed}
 use Rattle.mo_actor.specs.IncomingCalls.{arrived, entered}
@@ -24,6 +24,7 @@ use Rattle.core_ir.specs.Messages.{Messages}
 use Rattle.core_ir.specs.Values as core_value
 use Rattle.core_ir.specs.Worlds as worlds
 use Rattle.core_ir.specs.Worlds.{Context}
+use Rattle.typed_tree.specs.declared.action.Action.TheVariants as action
 use Rattle.typed_tree.specs.Language as language
 use Rattle.typed_tree.specs.Language.{Functions}
 use Rattle.typed_tree.specs.Programs.{Program}
@@ -38,9 +39,10 @@ use Rattle.mo_machine.specs.ActorLanguage.{machine, Fields, Waiting}
 use Rattle.mo_machine.specs.Bodies.{entering}
 use Rattle.mo_machine.specs.Environments.{Environment}
 use Rattle.mo_machine.specs.Exports.{function_at}
+use Rattle.mo_machine.specs.Frames.{Ready}
 use Rattle.mo_machine.specs.Messages.{message_of}
 use Rattle.mo_machine.specs.States.{with_states}
-use Rattle.mo_machine.specs.Values.{Value, Closure, load, load_list}
+use Rattle.mo_machine.specs.Values.{Value, Made, Closure, NoValue, load, load_list}
 use Rattle.elaboration.specs.Elaboration.{number_of_parameters}
 use Rattle.elaboration.specs.Meeting.{MeetEach}
 use Rattle.elaboration.specs.Playing.{as_reading, messages_of}
@@ -150,6 +152,7 @@ module _ (times : ℕ) (coding : Coding) (types : Types) (p : Program) (first : 
         → (known : List Known) (ws : List core_value.Value) → EachBelongs known (load (context caller) ∷ load_list vs) ws → (length ws ≡ number_of_parameters f.parameters) × MeetEach f.parameters ws)
     pub resumes : (a : Actor machine) → Safe (committed_state a) → (number : ℕ) (c : Call (List TypeId) Given) → Awaited a number c → (received : Received) → Allowed (answer_event number received)
         → (value : Given) → received_value typed own a c received ≡ Some value → (w : Waiting) → waiting_on number (activation_at a.activations c.owner) ≡ Some w
+        → (future : ℕ) → w.focus ≡ Ready action.Await (Made (Future future) NoValue ∷ [])
         → Sound times (surroundings coding types own (set_state a.table number (Answered (Some value)))) (continued value a.store.cells w) × (endings w.stack ≤ w.nodes + owed w.stack)
     pub begun : (kept : Option Kept) (prints : List Bytes) (weight : ℕ) (store : Fields) → HasResult Unmeasured first 0 (typed.start own kept) (Completed prints weight store) → (made : ℕ) → Safe (fresh_state store made)
     pub called : (a : Actor machine) → Safe (committed_state a) → (name caller argument : Bytes) (entry : Entry) → method_from 0 false name p.methods ≡ Some entry → Allowed (event.Call false name caller argument)

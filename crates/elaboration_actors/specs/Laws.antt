@@ -23,6 +23,7 @@ use Rattle.elaboration_steps.specs.Follows.{owed}
 use Rattle.elaboration_runs.specs.Calling.{Surrounded}
 use Rattle.elaboration_runs.specs.Resuming.{endings}
 use Rattle.elaboration_runs.specs.Waiting.{Accounted}
+use Rattle.elaboration_actors.specs.Ends.{EndsToo}
 use Rattle.elaboration_actors.specs.Bodies.{Sound, Follows, FieldsBelong, WaitingBelongs, EffectsBelong, SameMethod, Takes, GivenBelongs, continued}
 
 module _ (coding : Messages Kept) (program : Core) (own : Bytes) (table : CallTable (List TypeId) Given) (names : List core_value.Value) (s : Surroundings) where
@@ -50,3 +51,19 @@ module _ (coding : Messages Kept) (program : Core) (own : Bytes) (table : CallTa
       → (w : machine.Waiting) (p : Pending Waiting) → WaitingBelongs program names context.globals known w p → endings w.stack ≤ w.nodes + owed w.stack → (given : meaning.Given) (answer : Given) → GivenBelongs known given answer
       → Sound times s (continued given f.cells w)
       → Follows times (EffectsBelong program names context.globals f.exports known) (execution_of s f (machine.Resumes w given)) (run_body (core_machine program) coding program own table g (core_actor.GoesOn p answer))
+
+  -- ---- where the typed execution has ended, that of the elaborated one has
+
+  abbrev pub MethodsEnd : Type 0
+  MethodsEnd =
+      (times : ℕ) → 1 ≤ times → SameSurroundings → (known : List Known) (f : machine.Fields) (g : Fields) → FieldsBelong program names context.globals known f g
+      → (entry : Entry) (m : MethodEntry) (e : SameMethod program context known f.exports entry m) (caller : Bytes) (vs : List language.Value) (ws : List core_value.Value) → EachBelongs known (load_list vs) ws → Takes e.function caller ws
+      → Sound times s (entering f entry caller vs)
+      → EndsToo (execution_of s f (machine.Enters entry caller vs)) (run_body (core_machine program) coding program own table g (core_actor.Enters m caller ws))
+
+  abbrev pub ResumptionsEnd : Type 0
+  ResumptionsEnd =
+      (times : ℕ) → 1 ≤ times → SameSurroundings → (known : List Known) (f : machine.Fields) (g : Fields) → FieldsBelong program names context.globals known f g
+      → (w : machine.Waiting) (p : Pending Waiting) → WaitingBelongs program names context.globals known w p → endings w.stack ≤ w.nodes + owed w.stack → (given : meaning.Given) (answer : Given) → GivenBelongs known given answer
+      → Sound times s (continued given f.cells w)
+      → EndsToo (execution_of s f (machine.Resumes w given)) (run_body (core_machine program) coding program own table g (core_actor.GoesOn p answer))

@@ -4,3 +4,5 @@ pub mod Laws
 pub mod Actors
 pub mod Runs
 pub mod Starts
+pub mod Back
+pub mod Ends

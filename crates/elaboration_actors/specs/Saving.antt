@@ -1,6 +1,6 @@
 -- What an upgrade saves of both actors: their hooks and the cells of their stable variables belong together (Motoko language manual, sections "Stable
 -- variables" and "System functions").
-use Rattle.std.specs.Prelude.{◌≡◌, ◌⊎◌, ℕ, ◌≤◌, false, List, [], ◌∷◌, length, Some, None}
+use Rattle.std.specs.Prelude.{◌≡◌, ◌⊎◌, ℕ, ◌+◌, ◌≤◌, false, List, [], ◌∷◌, length, Some, None}
 use Rattle.mo_values.specs.declared.operation.Operation.TheVariants as op
 use Rattle.core_ir.specs.Expressions as core
 use Rattle.core_ir.specs.Expressions.{Core}
@@ -48,7 +48,7 @@ module _ (p : Program) (program : Core) (known : List Known) (globals : List cor
     pub code : core.Exp
     pub nodes : ℕ
     pub save : program.save ≡ record { parameters = 0; nodes = nodes; expression = code }
-    -- without a hook, or behind it
-    pub hook : ((before_upgrade exports ≡ None) × (nodes ≡ 0) × Elaborates program.groups false (outside places) (reading cells) code)
-        ⊎ ((fns : Functions) × (h : ℕ) × (around : Environment) × (f : Function) × (before_upgrade exports ≡ Some (Closure fns h around)) × (env ≡ with_group fns around) × (function_in fns h ≡ Some f) × (f.parameters ≡ NoPat) × (nodes ≡ f.nodes) × (1 ≤ f.nodes)
+    -- without a hook, or behind it; there is a node for each stable variable
+    pub hook : ((before_upgrade exports ≡ None) × (nodes ≡ length p.stable) × Elaborates program.groups false (outside places) (reading cells) code)
+        ⊎ ((fns : Functions) × (h : ℕ) × (around : Environment) × (f : Function) × (before_upgrade exports ≡ Some (Closure fns h around)) × (env ≡ with_group fns around) × (function_in fns h ≡ Some f) × (f.parameters ≡ NoPat) × (nodes ≡ length p.stable + f.nodes) × (1 ≤ f.nodes)
         × Elaborates program.groups false (outside places) (hooked f.body cells) code)

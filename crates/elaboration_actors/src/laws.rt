@@ -9,7 +9,7 @@ ghost use Rattle.core_ir.specs.Expressions.{Core};
 ghost use Rattle.core_ir.specs.Messages.{Messages};
 ghost use Rattle.mo_meaning.specs.Configurations.{Surroundings};
 ghost use Rattle.mo_meaning.specs.Kernel.{Kept};
-ghost use Rattle.elaboration_actors.specs.Laws.{MethodsFollow, ResumptionsFollow};
+ghost use Rattle.elaboration_actors.specs.Laws.{MethodsEnd, MethodsFollow, ResumptionsEnd, ResumptionsFollow};
 ghost use Rattle.elaboration_actors.specs.Actors.{MessagesAreTold};
 ghost use Rattle.elaboration_actors.specs.Starts.{IncompatibleFollow, KeptIsRestored, MethodsAreCode, StartsBegin, StartsEnd};
 ghost use Rattle.elaboration_actors.specs.Runs.{MeasuredRunsKeep, RunsKeep};
@@ -24,6 +24,12 @@ pub fn methods_are_followed()
 /// What waited, with an answer that belongs: likewise.
 pub fn resumptions_are_followed()
     ensures { (coding : Messages Kept) (program : Core) (own : Bytes) (table : CallTable (List TypeId) Given) (names : List Value) (s : Surroundings) → ResumptionsFollow coding program own table names s }
+{}
+
+/// And where the typed program's method has ended, or what waited, that of the elaborated one has.
+pub fn executions_end()
+    ensures methods { (coding : Messages Kept) (program : Core) (own : Bytes) (table : CallTable (List TypeId) Given) (names : List Value) (s : Surroundings) → MethodsEnd coding program own table names s }
+    ensures waiting { (coding : Messages Kept) (program : Core) (own : Bytes) (table : CallTable (List TypeId) Given) (names : List Value) (s : Surroundings) → ResumptionsEnd coding program own table names s }
 {}
 
 /// The actor of an elaborated program is told of messages what that of the typed one is told, and refuses what an upgrade hands on where that does.

@@ -5,6 +5,6 @@
 mod laws;
 
 pub use laws::{
-    messages_are_told, methods_are_code, methods_are_followed, resumptions_are_followed,
-    runs_are_kept, starts_begin, starts_end,
+    executions_end, messages_are_told, methods_are_code, methods_are_followed,
+    resumptions_are_followed, runs_are_kept, starts_begin, starts_end,
 };

@@ -1,5 +1,6 @@
 -- Code of an expression is formed.
-use Rattle.std.proofs.Common.{◌≡◌, ℕ, zero, suc, ◌+◌, ◌-◌, ◌<◌, ◌≤◌, Bool, false, List, [], ◌∷◌, ◌++◌, length, Some, None, slice_get, refl, sym, ap, ◌∙◌, subst, arith}
+use Rattle.std.proofs.Common.{◌≡◌, ℕ, zero, suc, ◌+◌, ◌-◌, ◌<◌, ◌≤◌, Bool, false, List, [], ◌∷◌, ◌++◌, length, Some, None, slice_get, refl, sym, ap, ◌∙◌, subst, arith, true, cond, inl, inr}
+use Rattle.std.specs.Prelude.{replicate}
 use Rattle.mo_num.specs.declared.kind.Kind.TheVariants as kind
 use Rattle.mo_values.specs.declared.operation.Operation.TheVariants as op
 use Rattle.mo_values.specs.Shapes.{Leaf, Tuple}
@@ -21,9 +22,9 @@ use Rattle.typed_tree.specs.Patterns.{Pat, Pats, NoPat, APat}
 use Rattle.typed_tree.specs.Substitution.{count as count_functions}
 use Rattle.elaboration.specs.Scopes.{Place, Local, Own, Nowhere, Scope, append, nothing, at_place, place_or_nowhere, leave, leaving, beside, inside, labelled, places_from, under, in_body}
 use Rattle.elaboration.specs.Checks.{Named, check, check_all, around_all, behind, fails, locals}
-use Rattle.elaboration.specs.Members.{Form, Does, Calls, Iterates, Steps, form_of, number_of, own_group, function_of, levels_from, called, amount, bind_all}
-use Rattle.elaboration.specs.Elaboration.{constant_of, break_with, goal_of, number_of_parameters, on_nearest, on_parameters, count_of}
-use Rattle.elaboration_forms.specs.Elaborates.{IsLiteral, May, AtOnce, HasGroups, Elaborates, ElaboratesAll, ElaboratesNames, ElaboratesCases, ElaboratesFunctions}
+use Rattle.elaboration.specs.Members.{Form, Does, Calls, Iterates, Steps, form_of, number_of, own_group, function_of, levels_from, called, amount, bind_all, let_in}
+use Rattle.elaboration.specs.Elaboration.{constant_of, break_with, goal_of, number_of_parameters, on_nearest, on_parameters, count_of, is_true, loop_scope, tested_loop}
+use Rattle.elaboration_forms.specs.Elaborates.{IsLiteral, May, AtOnce, HasGroups, Elaborates, ElaboratesAll, ElaboratesNames, ElaboratesCases, ElaboratesFunctions, unseen, one_of, only}
 use Rattle.elaboration_formed.specs.Arities.{held, taken, ActionTakes, Shaped, ShapedAll, ShapedCases, ShapedFunctions}
 use Rattle.elaboration_formed.specs.Formed.{PlaceFits, PlacesFit, ExitsFit, Fits, Formed, EachFormed}
 use Rattle.elaboration_formed.proofs.Checking.{Closed, Good, LevelsFit, checked, all_checked, places_fit}
@@ -71,11 +72,37 @@ module _ (globals : ℕ) where
   pub fits_inside : (s : Scope) → Fits globals s → Fits globals (inside s)
   fits_inside s f = record { places = f.places; exits = more_exits s.labels (suc s.labels) s.exits (omega arith) f.exits }
 
+  pub fits_loop : (x : Exp) (s : Scope) → Fits globals s → Fits globals (loop_scope x s)
+  fits_loop x s f = record { places = f.places; exits = more_exits s.labels (cond (is_true x) s.labels (suc s.labels)) s.exits (by (is_true x)) f.exits }
+    where
+      by : (e : Bool) → s.labels ≤ cond e s.labels (suc s.labels)
+      by true = omega arith
+      by false = omega arith
+
   pub fits_labelled : (s : Scope) → Fits globals s → Fits globals (labelled s)
   fits_labelled s f = record { places = f.places; exits = (omega arith, more_exits s.labels (suc s.labels) s.exits (omega arith) f.exits) }
 
   pub fits_under : (n : ℕ) (s : Scope) → Fits globals s → Fits globals (under n s)
   fits_under n s f = record { places = more_places (n + s.names) (places_from s.names n) s.places (group_places s.names n (n + s.names) (omega arith)) (more_names s.names (n + s.names) s.places (omega arith) f.places); exits = f.exits }
+
+  none_fit : (n m : ℕ) → PlacesFit globals m (replicate n Nowhere)
+  none_fit zero m = tt
+  none_fit (suc n) m = (tt, none_fit n m)
+
+  -- where nothing or one name of a group has a place
+  pub fits_unseen : (n : ℕ) (s : Scope) → Fits globals s → Fits globals (unseen n s)
+  fits_unseen n s f = record { places = more_places (suc s.names) (replicate n Nowhere) s.places (none_fit n (suc s.names)) (more_names s.names (suc s.names) s.places (omega arith) f.places); exits = f.exits }
+
+  one_fits : (level i n m : ℕ) → level < m → PlacesFit globals m (one_of level i n)
+  one_fits level i zero m h = tt
+  one_fits level zero (suc n) m h = (h, none_fit n m)
+  one_fits level (suc i) (suc n) m h = (tt, one_fits level i n m h)
+
+  fits_only : (i n : ℕ) (s : Scope) → Fits globals s → Fits globals (only i n s)
+  fits_only i n s f = record {
+    places = more_places (suc s.names) (one_of s.names i n) s.places (one_fits s.names i n (suc s.names) (omega arith)) (more_names s.names (suc s.names) s.places (omega arith) f.places);
+    exits = f.exits;
+  }
 
   fits_in_body : (n : ℕ) (s : Scope) → Fits globals s → Fits globals (in_body n s)
   fits_in_body n s f = record { places = more_names s.names (n + s.names) s.places (omega arith) f.places; exits = tt }
@@ -226,6 +253,9 @@ module _ (globals : ℕ) (table : List (Group Body)) where
   next_name : (n : ℕ) (P : ℕ → Type 0) → P (1 + n) → P (suc n)
   next_name n P h = let z : 1 + n ≡ suc n = omega arith in subst P z h
 
+  one_more : (n : ℕ) (P : ℕ → Type 0) → P (suc n) → P (1 + n)
+  one_more n P h = let z : suc n ≡ 1 + n = omega arith in subst P z h
+
   -- ---- patterns, and what stands behind them
 
   let_good : (b : Bool) (s : Scope) (p : Pat) → Good globals table b (suc s.names) (on_nearest p s)
@@ -248,6 +278,10 @@ module _ (globals : ℕ) (table : List (Group Body)) where
 
   turn_around : (b : Bool) (s : Scope) (p : Pat) (z : core.Exp) → F b (on_nearest p (beside 1 s)).names (suc s.labels) z → F b (suc (suc s.names)) (suc s.labels) (around_all (on_nearest p (beside 1 s)).checks fails z)
   turn_around b s p z h = next_name s.names (λ n. F b (suc n) (suc s.labels) (around_all (on_nearest p (beside 1 s)).checks fails z)) ((turn_good b s p).leads.formed (suc s.labels) fails z (fails_closed b) h)
+
+  loop_formed : (b : Bool) (s : Scope) (e : Bool) (y z : core.Exp) → F b s.names (suc s.labels) y → F b (1 + s.names) (cond e s.labels (suc s.labels)) z → F b s.names s.labels (cond e (core.Loop (let_in nothing z)) (tested_loop y z))
+  loop_formed b s true y z h k = ((refl, next_name s.names (λ n. F b n s.labels z) k), (tt, tt))
+  loop_formed b s false y z h k = ((refl, next_name s.names (λ n. F b n (suc s.labels) z) k), (((refl, refl, tt, ((omega arith, refl), (tt, tt))), (h, tt)), tt))
 
   pub body_fits : (b : Bool) (s : Scope) (ps : Pats) → Fits globals s → Fits globals (behind (on_parameters ps s) (in_body (number_of_parameters ps) s))
   body_fits b s NoPat f = fits_in_body globals 0 s f
@@ -288,22 +322,26 @@ module _ (globals : ℕ) (table : List (Group Body)) where
     formed b s (Switch e cases) c h f k =
         subst (F b s.names s.labels) (sym h.4)
         ((refl, next_name s.names (λ n. F b n (suc s.labels) h.1) (cases_formed b s.names (inside (beside 1 s)) cases h.1 (omega arith) h.3 (fits_inside globals (beside 1 s) (fits_beside globals 1 s f)) (omega arith) k.1)), (formed b s e h.0 h.2 f k.0, tt))
-    formed b s (source.Group fns d) c h f k =
+    formed b s (source.Group fns d) c (inl h) f k =
         let r = there table h.0 (record { sees = s.names; bodies = h.1 }) h.3 in
         let n = bodies_counted (under (count_functions fns) s) fns h.1 h.4 in
         subst (F b s.names s.labels) (sym h.6)
         (r.0, r.1, subst (λ i. F b (i + s.names) s.labels h.2) (sym (r.2 ∙ n)) (formed b (under (count_functions fns) s) d h.2 h.5 (fits_under globals (count_functions fns) s f) k.1))
+    formed b s (source.Group fns d) c (inr h) f k =
+        let r = there table h.1 (record { sees = s.names; bodies = h.2 ∷ [] }) h.4 in
+        subst (F b s.names s.labels) (sym h.7)
+        (r.0, r.1, subst (λ i. F b (i + s.names) s.labels h.3) (sym r.2) (one_more s.names (λ n. F b n s.labels h.3) (formed b (only h.0 (count_functions fns) s) d h.3 h.6 (fits_only globals h.0 (count_functions fns) s f) k.1)))
     formed b s (source.Frame nodes e) c h f k = absurd h
     formed b s (source.Label e) c h f k = subst (F b s.names s.labels) (sym h.2) (formed b (labelled s) e h.0 h.1 (fits_labelled globals s f) k)
     formed b s (While x d) c h f k =
         subst (F b s.names s.labels) (sym h.4)
-        ((refl, refl, formed b (inside s) d h.1 h.3 (fits_inside globals s f) k.1, ((omega arith, refl), (tt, tt))), (formed b (inside s) x h.0 h.2 (fits_inside globals s f) k.0, tt))
+        (loop_formed b s (is_true x) h.0 h.1 (formed b (inside s) x h.0 h.2 (fits_inside globals s f) k.0) (formed b (beside 1 (loop_scope x s)) d h.1 h.3 (fits_beside globals 1 (loop_scope x s) (fits_loop globals x s f)) k.1))
     formed b s (Repeat d x) c h f k =
         subst (F b s.names s.labels) (sym h.4)
         ((refl, ((refl, refl, tt, ((omega arith, refl), (tt, tt))), (next_name s.names (λ n. F b n (suc s.labels) h.1) (formed b (beside 1 (inside s)) x h.1 h.3 (fits_beside globals 1 (inside s) (fits_inside globals s f)) k.1), tt))), (formed b (inside s) d h.0 h.2 (fits_inside globals s f) k.0, tt))
     formed b s (For p e d) c h f k =
         subst (F b s.names s.labels) (sym h.4)
-        ((refl, ((refl, turn_around b s p h.1 (formed b (inside (behind (on_nearest p (beside 1 s)) s)) d h.1 h.3 (turn_fits b s p f) k.1), ((omega arith, refl), (tt, tt))), ((omega arith, ((refl, (omega arith, tt)), tt)), tt))), (formed b s e h.0 h.2 f k.0, tt))
+        ((refl, ((refl, turn_around b s p h.1 (formed b (inside (behind (on_nearest p (beside 1 s)) s)) d h.1 h.3 (turn_fits b s p f) k.1)), (((refl, omega arith, ((omega arith, refl), (tt, tt))), ((omega arith, ((refl, (omega arith, tt)), tt)), tt)), tt))), (formed b s e h.0 h.2 f k.0, tt))
     formed b s (source.Try e p d) c h f k =
         subst (F b s.names s.labels) (sym h.5) (h.2, formed b s e h.0 h.3 f k.0, let_around b s p h.1 (formed b (behind (on_nearest p s) s) d h.1 h.4 (let_fits b s p f) k.1))
     formed b s (Update o e g) c h f k =

@@ -19,14 +19,14 @@ use Rattle.typed_tree.specs.Substitution.{count as count_functions}
 use Rattle.elaboration.specs.Scopes.{Place, Scope, append, name, beside, inside, labelled, under, in_body}
 use Rattle.elaboration.specs.Checks.{Named, check, behind}
 use Rattle.elaboration.specs.Members.{Steps, Iterates, Over, Elements, Places, Characters, Elaborated, form_of, own_group, function_of, names_of, levels_from, first, second, nearest, element, place, next_by, next, iterator, amount, called}
-use Rattle.elaboration.specs.Elaboration.{ManyElaborated, BodiesElaborated, elaborate, elaborate_operands, elaborate_names, elaborate_cases, elaborate_functions, number_of_parameters, on_nearest, on_parameters, count_of}
+use Rattle.elaboration.specs.Elaboration.{ManyElaborated, BodiesElaborated, elaborate, elaborate_operands, elaborate_names, elaborate_cases, elaborate_functions, number_of_parameters, on_nearest, on_parameters, count_of, loop_scope}
 use Rattle.elaboration.specs.Programs.{own_from, kept_places, start_scope}
 use Rattle.elaboration_forms.specs.Elaborates.{HasGroups, Stands, StandAll, StandNames, StandCases, StandFunctions}
 use Rattle.elaboration_forms.proofs.Made.{elaborates_functions}
 use Rattle.elaboration_formed.specs.Arities.{held, Shaped, ShapedAll, ShapedCases, ShapedFunctions}
 use Rattle.elaboration_formed.specs.Formed.{PlacesFit, Fits, Formed, EachFormed, GroupsFormed}
 use Rattle.elaboration_formed.proofs.Checking.{LevelsFit, checked}
-use Rattle.elaboration_formed.proofs.Forming.{there, fits_beside, fits_inside, fits_labelled, fits_under, let_fits, turn_fits, body_fits, behind_fits, append_formed, append_count, bodies_formed, bodies_counted}
+use Rattle.elaboration_formed.proofs.Forming.{there, fits_beside, fits_inside, fits_labelled, fits_under, let_fits, turn_fits, body_fits, behind_fits, append_formed, append_count, bodies_formed, bodies_counted, fits_loop}
 
 module _ (globals : ℕ) (table : List (Group Body)) where
   abbrev H : ℕ → List (Group Body) → Type 0
@@ -263,9 +263,9 @@ module _ (globals : ℕ) (table : List (Group Body)) where
     groups b s n (source.Label e) t h f k = groups b (labelled s) n e t h (fits_labelled globals s f) k
     groups b s n (While c d) t h f k =
         let x : Elaborated = elaborate (inside s) n c in
-        let y : Elaborated = elaborate (inside s) (n + length x.groups) d in
+        let y : Elaborated = elaborate (beside 1 (loop_scope c s)) (n + length x.groups) d in
         let i = apart x.groups y.groups n h in
-        both x.groups y.groups (groups b (inside s) n c t.0 i.0 (fits_inside globals s f) k.0) (groups b (inside s) (n + length x.groups) d t.1 i.1 (fits_inside globals s f) k.1)
+        both x.groups y.groups (groups b (inside s) n c t.0 i.0 (fits_inside globals s f) k.0) (groups b (beside 1 (loop_scope c s)) (n + length x.groups) d t.1 i.1 (fits_beside globals 1 (loop_scope c s) (fits_loop globals c s f)) k.1)
     groups b s n (Repeat d c) t h f k =
         let x : Elaborated = elaborate (inside s) n d in
         let y : Elaborated = elaborate (beside 1 (inside s)) (n + length x.groups) c in

@@ -1,5 +1,5 @@
 -- What elaboration makes is code of the expression.
-use Rattle.std.proofs.Common.{◌≡◌, ℕ, suc, ◌+◌, Bool, false, List, [], ◌∷◌, ◌++◌, length, refl, subst, arith}
+use Rattle.std.proofs.Common.{◌≡◌, inl, ℕ, suc, ◌+◌, Bool, false, List, [], ◌∷◌, ◌++◌, length, refl, subst, arith}
 use Rattle.core_ir.specs.Programs.{Group}
 use Rattle.core_ir.specs.Expressions.{Body}
 use Rattle.typed_tree.specs.declared.action.Action.TheVariants as action
@@ -9,7 +9,7 @@ use Rattle.typed_tree.specs.Substitution.{count}
 use Rattle.elaboration.specs.Scopes.{Scope, beside, inside, labelled, under, in_body}
 use Rattle.elaboration.specs.Checks.{Named, check, behind}
 use Rattle.elaboration.specs.Members.{Elaborated, form_of, function_of, levels_from, called}
-use Rattle.elaboration.specs.Elaboration.{ManyElaborated, BodiesElaborated, elaborate, elaborate_operands, elaborate_names, elaborate_cases, elaborate_functions, number_of_parameters, on_nearest, on_parameters, count_of}
+use Rattle.elaboration.specs.Elaboration.{ManyElaborated, BodiesElaborated, elaborate, elaborate_operands, elaborate_names, elaborate_cases, elaborate_functions, loop_scope, number_of_parameters, on_nearest, on_parameters, count_of}
 use Rattle.elaboration_forms.specs.Elaborates.{HasGroups, Elaborates, ElaboratesAll, ElaboratesNames, ElaboratesCases, ElaboratesFunctions, Stands, StandAll, StandNames, StandCases, StandFunctions}
 
 module _ (table : List (Group Body)) where
@@ -61,14 +61,14 @@ module _ (table : List (Group Body)) where
         let f : BodiesElaborated = elaborate_functions (under (count fns) s) n fns in
         let x : Elaborated = elaborate (under (count fns) s) (suc (n + length f.groups)) d in
         let i = apart f.groups (record { sees = s.names; bodies = f.bodies } ∷ x.groups) n h in
-        (n + length f.groups, f.bodies, x.exp, i.1.0, elaborates_functions (under (count fns) s) n fns (t.0) (i.0), elaborates b (under (count fns) s) (suc (n + length f.groups)) d (t.1) (i.1.1), refl)
+        inl (n + length f.groups, f.bodies, x.exp, i.1.0, elaborates_functions (under (count fns) s) n fns (t.0) (i.0), elaborates b (under (count fns) s) (suc (n + length f.groups)) d (t.1) (i.1.1), refl)
     elaborates b s n (source.Frame nodes e) t h = absurd t
     elaborates b s n (source.Label e) t h = ((elaborate (labelled s) n e).exp, elaborates b (labelled s) n e t h, refl)
     elaborates b s n (While c d) t h =
         let x : Elaborated = elaborate (inside s) n c in
-        let y : Elaborated = elaborate (inside s) (n + length x.groups) d in
+        let y : Elaborated = elaborate (beside 1 (loop_scope c s)) (n + length x.groups) d in
         let i = apart x.groups y.groups n h in
-        (x.exp, y.exp, elaborates b (inside s) n c (t.0) (i.0), elaborates b (inside s) (n + length x.groups) d (t.1) (i.1), refl)
+        (x.exp, y.exp, elaborates b (inside s) n c (t.0) (i.0), elaborates b (beside 1 (loop_scope c s)) (n + length x.groups) d (t.1) (i.1), refl)
     elaborates b s n (Repeat d c) t h =
         let x : Elaborated = elaborate (inside s) n d in
         let y : Elaborated = elaborate (beside 1 (inside s)) (n + length x.groups) c in

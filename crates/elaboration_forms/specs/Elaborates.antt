@@ -1,12 +1,12 @@
 -- What it is that code of Core is that of an expression of the source. Which number a group of functions has is left open. In the body of a
 -- shared function stand calls of such functions, awaits and errors, and in other functions none.
-use Rattle.std.specs.Prelude.{◌≡◌, ℕ, suc, ◌+◌, ◌≤◌, Bool, true, false, List, [], ◌∷◌, Some, slice_get}
+use Rattle.std.specs.Prelude.{◌≡◌, ◌⊎◌, ℕ, zero, suc, ◌+◌, ◌≤◌, Bool, true, false, List, [], ◌∷◌, ◌++◌, replicate, Option, Some, None, slice_get}
+use Rattle.mo_types.specs.declared.node.Sort.TheVariants as sort
 use Rattle.mo_values.specs.Shapes.{Leaf, Tuple}
-use Rattle.core_ir.specs.declared.primitive.Constructor.TheVariants as constructor
 use Rattle.core_ir.specs.declared.primitive.Primitive.TheVariants as primitive
 use Rattle.core_ir.specs.Programs.{Group}
 use Rattle.core_ir.specs.Expressions as core
-use Rattle.core_ir.specs.Expressions.{Loop, Try, NoExp, AnExp, Match, Body}
+use Rattle.core_ir.specs.Expressions.{Loop, Try, NoExp, AnExp, Body}
 use Rattle.typed_tree.specs.declared.action.Action.{Action}
 use Rattle.typed_tree.specs.declared.action.Action.TheVariants as action
 use Rattle.typed_tree.specs.Language as source
@@ -15,7 +15,8 @@ use Rattle.typed_tree.specs.Substitution.{count}
 use Rattle.elaboration.specs.Scopes.{Place, Local, Own, Nowhere, Scope, one, two, nothing, read_name, place_or_nowhere, beside, inside, labelled, under, in_body}
 use Rattle.elaboration.specs.Checks.{Named, check, around_all, behind, fails}
 use Rattle.elaboration.specs.Members.{Form, Does, form_of, function_of, levels_from, called, bind_all, let_in, does}
-use Rattle.elaboration.specs.Elaboration.{constant_of, break_with, if_true, goal_of, next_of, number_of_parameters, on_nearest, on_parameters, count_of}
+use Rattle.elaboration.specs.Programs.{Hook, hook_of}
+use Rattle.elaboration.specs.Elaboration.{constant_of, break_with, if_true, goal_of, element_of, loop_scope, loop_of, number_of_parameters, on_nearest, on_parameters, count_of}
 
 -- a value that stands in a program
 abbrev pub IsLiteral : Value → Type 0
@@ -47,6 +48,18 @@ abbrev pub HasGroups : List (Group Body) → ℕ → List (Group Body) → Type 
 HasGroups table n [] = Unit {0}
 HasGroups table n (g ∷ gs) = (slice_get table n ≡ Some g) × HasGroups table (suc n) gs
 
+-- Of a group of so many functions one is made alone: in its body no name of the group has a place, and behind the group that of this function has one.
+abbrev pub unseen : ℕ → Scope → Scope
+unseen n s = record s { places = replicate n Nowhere ++ s.places; names = suc s.names }
+
+abbrev pub one_of : (level i n : ℕ) → List Place
+one_of level i zero = []
+one_of level zero (suc n) = Local level ∷ replicate n Nowhere
+one_of level (suc i) (suc n) = Nowhere ∷ one_of level i n
+
+abbrev pub only : (i n : ℕ) → Scope → Scope
+only i n s = record s { places = one_of s.names i n ++ s.places; names = suc s.names }
+
 module _ (table : List (Group Body)) where
   abbrev mutual
     pub Elaborates : Bool → Scope → Exp → core.Exp → Type 0
@@ -62,17 +75,20 @@ module _ (table : List (Group Body)) where
     Elaborates b s (Switch e (ACase p d NoCase)) c =
         (y z : core.Exp) × Elaborates b s e y × Elaborates b (behind (on_nearest p s) s) d z × (c ≡ let_in y (around_all (on_nearest p s).checks fails z))
     Elaborates b s (Switch e cases) c = (y z : core.Exp) × Elaborates b s e y × ElaboratesCases b s.names (inside (beside 1 s)) cases z × (c ≡ let_in y (core.Label z))
+    -- the functions of a group, or one of them, where nothing else is used of the group
     Elaborates b s (source.Group fns d) c =
-        (n : ℕ) × (bodies : List Body) × (z : core.Exp) × (slice_get table n ≡ Some (record { sees = s.names; bodies = bodies })) × ElaboratesFunctions (under (count fns) s) fns bodies
-        × Elaborates b (under (count fns) s) d z × (c ≡ core.Functions n z)
+        ((n : ℕ) × (bodies : List Body) × (z : core.Exp) × (slice_get table n ≡ Some (record { sees = s.names; bodies = bodies })) × ElaboratesFunctions (under (count fns) s) fns bodies
+        × Elaborates b (under (count fns) s) d z × (c ≡ core.Functions n z))
+        ⊎ ((i : ℕ) × (n : ℕ) × (body : Body) × (z : core.Exp) × (slice_get table n ≡ Some (record { sees = s.names; bodies = body ∷ [] })) × ElaboratesOne (unseen (count fns) s) fns i body
+        × Elaborates b (only i (count fns) s) d z × (c ≡ core.Functions n z))
     Elaborates b s (source.Frame nodes e) c = ⊥
     Elaborates b s (source.Label e) c = (y : core.Exp) × Elaborates b (labelled s) e y × (c ≡ core.Label y)
-    Elaborates b s (While x d) c = (y z : core.Exp) × Elaborates b (inside s) x y × Elaborates b (inside s) d z × (c ≡ core.Label (Loop (if_true y z (break_with nothing))))
+    Elaborates b s (While x d) c = (y z : core.Exp) × Elaborates b (inside s) x y × Elaborates b (beside 1 (loop_scope x s)) d z × (c ≡ loop_of x y z)
     Elaborates b s (Repeat d x) c =
         (y z : core.Exp) × Elaborates b (inside s) d y × Elaborates b (beside 1 (inside s)) x z × (c ≡ core.Label (Loop (let_in y (if_true z nothing (break_with nothing)))))
     Elaborates b s (For p e d) c =
         (y z : core.Exp) × Elaborates b s e y × Elaborates b (inside (behind (on_nearest p (beside 1 s)) s)) d z
-        × (c ≡ let_in y (core.Label (Loop (core.Do (Match constructor.Present (around_all (on_nearest p (beside 1 s)).checks fails z) (break_with nothing)) (one (next_of (core.Name 0)))))))
+        × (c ≡ let_in y (core.Label (Loop (let_in element_of (around_all (on_nearest p (beside 1 s)).checks fails z)))))
     Elaborates b s (source.Try e p d) c =
         (y z : core.Exp) × (b ≡ true) × Elaborates b s e y × Elaborates b (behind (on_nearest p s) s) d z × (c ≡ Try y (around_all (on_nearest p s).checks fails z))
     Elaborates b s (Update o e f) c =
@@ -100,6 +116,14 @@ module _ (table : List (Group Body)) where
         (y : core.Exp) × (others : List Body) × Elaborates false (behind (on_parameters ps s) (in_body (number_of_parameters ps) s)) body y × ElaboratesFunctions s fns others
         × (bodies ≡ record { parameters = number_of_parameters ps; nodes = nodes; expression = around_all (on_parameters ps s).checks fails y } ∷ others)
 
+    -- the body of one of these functions
+    pub ElaboratesOne : Scope → Functions → ℕ → Body → Type 0
+    ElaboratesOne s NoFunction i b = ⊥
+    ElaboratesOne s (AFunction how nodes ps body fns) zero b =
+        (y : core.Exp) × Elaborates false (behind (on_parameters ps s) (in_body (number_of_parameters ps) s)) body y
+        × (b ≡ record { parameters = number_of_parameters ps; nodes = nodes; expression = around_all (on_parameters ps s).checks fails y })
+    ElaboratesOne s (AFunction how nodes ps body fns) (suc i) b = ElaboratesOne s fns i b
+
 -- ---- what is asked of an expression that is elaborated: it has its names, and stands where its actions may
 
 abbrev mutual
@@ -115,7 +139,7 @@ abbrev mutual
   Stands b s (source.Group fns d) = StandFunctions (under (count fns) s) fns × Stands b (under (count fns) s) d
   Stands b s (source.Frame nodes e) = ⊥
   Stands b s (source.Label e) = Stands b (labelled s) e
-  Stands b s (While x d) = Stands b (inside s) x × Stands b (inside s) d
+  Stands b s (While x d) = Stands b (inside s) x × Stands b (beside 1 (loop_scope x s)) d
   Stands b s (Repeat d x) = Stands b (inside s) d × Stands b (beside 1 (inside s)) x
   Stands b s (For p e d) = Stands b s e × Stands b (inside (behind (on_nearest p (beside 1 s)) s)) d
   Stands b s (source.Try e p d) = (b ≡ true) × Stands b s e × Stands b (behind (on_nearest p s) s) d
@@ -137,9 +161,14 @@ abbrev mutual
   StandFunctions s NoFunction = Unit {0}
   StandFunctions s (AFunction how nodes ps body fns) = Stands false (behind (on_parameters ps s) (in_body (number_of_parameters ps) s)) body × StandFunctions s fns
 
--- the declarations of an actor stand, each in the scope of those before it; the last group has its own scope
+-- the hook behind an upgrade stands where it is made alone
+abbrev pub StandsAlone : Scope → ℕ → Option Hook → Type 0
+StandsAlone s n None = Unit {0}
+StandsAlone s n (Some h) = StandFunctions (unseen n s) (AFunction sort.Local h.nodes h.parameters h.body NoFunction)
+
+-- the declarations of an actor stand, each in the scope of those before it; the last group has its own scope, but for the hook behind an upgrade
 abbrev pub DeclarationsStand : Scope → Exp → Type 0
 DeclarationsStand s (Switch e (ACase p b NoCase)) = Stands false s e × DeclarationsStand (behind (on_nearest p s) s) b
-DeclarationsStand s (source.Group fns (source.Do a (source.AnExp functions (source.AnExp before (source.AnExp after (source.AnExp cells es)))))) = Unit {0}
+DeclarationsStand s (source.Group fns (source.Do a (source.AnExp functions (source.AnExp before (source.AnExp after (source.AnExp cells es)))))) = StandsAlone s (count fns) (hook_of after fns)
 DeclarationsStand s (source.Group fns b) = StandFunctions (under (count fns) s) fns × DeclarationsStand (under (count fns) s) b
 DeclarationsStand s e = ⊥

@@ -34,7 +34,7 @@ firsts_shaped zero fns h = tt
 firsts_shaped (suc n) NoFunction h = tt
 firsts_shaped (suc n) (AFunction how nodes ps body fns) h = (h.0, firsts_shaped n fns (h.1))
 
-function_shaped : (fns : Functions) (i : ℕ) (f : Function) → function_in fns i ≡ Some f → ShapedFunctions fns → Shaped f.body
+pub function_shaped : (fns : Functions) (i : ℕ) (f : Function) → function_in fns i ≡ Some f → ShapedFunctions fns → Shaped f.body
 function_shaped NoFunction i f e h = absurd (let z : None ≡ Some f = e in cc)
 function_shaped (AFunction how nodes ps body fns) zero f e h = is e
   where
@@ -111,19 +111,19 @@ module _ (globals : ℕ) (table : List (Group Body)) (places : List Place) (fit 
 
   -- ---- what an upgrade saves
 
-  pub save_formed : (cells : List ℕ) (last : Functions) (before : Option ℕ) (b : Body) → SavedBy table places cells last before b → ShapedFunctions last → Formed globals table false (b.parameters + 0) 0 b.expression
-  save_formed cells last None b h k =
+  pub save_formed : (cells : List ℕ) (stable : ℕ) (last : Functions) (before : Option ℕ) (b : Body) → SavedBy table places cells stable last before b → ShapedFunctions last → Formed globals table false (b.parameters + 0) 0 b.expression
+  save_formed cells stable last None b h k =
       subst (λ (b : Body). Formed globals table false (b.parameters + 0) 0 b.expression) (sym (h.1)) (formed globals table false (outside places) (reading cells) (h.0) (h.2) fit (tt, tt, reads_shaped cells))
-  save_formed cells last (Some i) b (f, code, there, plain, any, is, elaborates) k =
+  save_formed cells stable last (Some i) b (f, code, there, plain, any, is, elaborates) k =
       subst (λ (b : Body). Formed globals table false (b.parameters + 0) 0 b.expression) (sym is)
       (formed globals table false (outside places) (hooked f.body cells) code elaborates fit (function_shaped last i f there k, ((tt, tt, reads_shaped cells), tt)))
 
-  pub save_groups : (cells : List ℕ) (last : Functions) (before : Option ℕ) (n : ℕ) → HookStands places last before → ShapedFunctions last → HasGroups table n (save_of places n (hook_of (hook_name before) last) (held_in places (names_of cells))).groups
-      → GF (save_of places n (hook_of (hook_name before) last) (held_in places (names_of cells))).groups
-  save_groups cells last None n stands k = λ h. tt
-  save_groups cells last (Some i) n (f, there, plain, any, stands) k =
-      subst (λ o. HasGroups table n (save_of places n o held).groups → GF (save_of places n o held).groups) (sym (hook_there last i f there))
-      (subst (λ ps. HasGroups table n (save_of places n (Some (record { nodes = f.nodes; parameters = ps; body = f.body })) held).groups → GF (save_of places n (Some (record { nodes = f.nodes; parameters = ps; body = f.body })) held).groups) (sym plain)
+  pub save_groups : (cells : List ℕ) (stable : ℕ) (last : Functions) (before : Option ℕ) (n : ℕ) → HookStands places last before → ShapedFunctions last → HasGroups table n (save_of stable places n (hook_of (hook_name before) last) (held_in places (names_of cells))).groups
+      → GF (save_of stable places n (hook_of (hook_name before) last) (held_in places (names_of cells))).groups
+  save_groups cells stable last None n stands k = λ h. tt
+  save_groups cells stable last (Some i) n (f, there, plain, any, stands) k =
+      subst (λ o. HasGroups table n (save_of stable places n o held).groups → GF (save_of stable places n o held).groups) (sym (hook_there last i f there))
+      (subst (λ ps. HasGroups table n (save_of stable places n (Some (record { nodes = f.nodes; parameters = ps; body = f.body })) held).groups → GF (save_of stable places n (Some (record { nodes = f.nodes; parameters = ps; body = f.body })) held).groups) (sym plain)
       (λ h. groups globals table false (labelled (outside places)) n f.body stands h (fits_labelled globals (outside places) fit) (function_shaped last i f there k)))
     where
       held : core.Exps

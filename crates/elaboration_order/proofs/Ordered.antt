@@ -1,5 +1,5 @@
 -- What elaboration makes names groups that were made before.
-use Rattle.std.proofs.Common.{◌≡◌, ℕ, Bool, true, false, zero, suc, ◌+◌, ◌-◌, ◌<◌, List, [], ◌∷◌, ◌++◌, length, Option, Some, None, slice_get, refl, sym, ap, subst, arith}
+use Rattle.std.proofs.Common.{◌≡◌, ℕ, Bool, true, false, zero, suc, ◌+◌, ◌-◌, ◌<◌, List, [], ◌∷◌, ◌++◌, length, Option, Some, None, slice_get, refl, sym, ap, subst, arith, cond}
 use Rattle.std.specs.Prelude.{take, replicate}
 use Rattle.mo_values.specs.Shapes.{Leaf}
 use Rattle.mo_types.specs.declared.node.Sort.TheVariants as sort
@@ -7,7 +7,6 @@ use Rattle.core_ir.specs.Programs.{Group}
 use Rattle.core_ir.specs.Expressions as core
 use Rattle.core_ir.specs.Expressions.{NoExp, AnExp, Body}
 use Rattle.core_laws.specs.Makes.{MakesGoal, MakesBodies, MakesGroups, MakesEarlier}
-use Rattle.core_ir.specs.declared.primitive.Constructor.TheVariants as constructor
 use Rattle.core_ir.specs.declared.primitive.Primitive.TheVariants as primitive
 use Rattle.typed_tree.specs.declared.action.Action.{Action}
 use Rattle.typed_tree.specs.declared.action.Member.{Member}
@@ -20,7 +19,7 @@ use Rattle.typed_tree.specs.Programs.{Program}
 use Rattle.elaboration.specs.Scopes.{Place, Local, Own, Nowhere, Scope, one, two, nothing, name, append, at_place, place_or_nowhere, leave, beside, inside, labelled, under, in_body}
 use Rattle.elaboration.specs.Checks.{Checked, Named, check, around_all, behind, fails}
 use Rattle.elaboration.specs.Members.{Elaborated, Over, Elements, Places, Characters, Form, Does, Calls, Iterates, Steps, form_of, levels_from, names_of, first, second, element, place, next_by, next, function_of, amount, called, bind_all, nearest, let_in, does}
-use Rattle.elaboration.specs.Elaboration.{ManyElaborated, BodiesElaborated, elaborate, elaborate_operands, elaborate_names, elaborate_cases, elaborate_functions, number_of_parameters, on_nearest, on_parameters, count_of, goal_of, constant_of, if_true, break_with, next_of}
+use Rattle.elaboration.specs.Elaboration.{ManyElaborated, BodiesElaborated, elaborate, elaborate_operands, elaborate_names, elaborate_cases, elaborate_functions, number_of_parameters, on_nearest, on_parameters, count_of, goal_of, constant_of, if_true, break_with, element_of, is_true, loop_scope, loop_of, tested_loop}
 use Rattle.elaboration.specs.Programs.{Hook, SaveElaborated, elaborate_actor, ending, save_of, start_end, hook_of, firsts, held_in, cells_of, outside, numbered, start_scope, elaborated}
 use Rattle.elaboration_order.proofs.Making.{Below, AllBelow, more, more_all, more_bodies, groups_and, around_below, check_below, all_below}
 
@@ -59,6 +58,11 @@ second_all : (gs hs : List (Group Body)) (n : ℕ) (es : core.Exps) → AllBelow
 second_all gs hs n es h = let z : length (gs ++ hs) ≡ length gs + length hs = length_and gs hs in more_all (n + length gs + length hs) (n + length (gs ++ hs)) (omega (arith, z)) es h
 
 -- two parts
+-- a loop, with an end or without one
+loop_below : (m : ℕ) (e : Bool) (y z : core.Exp) → Below m y → Below m z → Below m (cond e (core.Loop (let_in nothing z)) (tested_loop y z))
+loop_below m true y z a b = (b, (tt, tt))
+loop_below m false y z a b = (b, (((tt, (tt, (tt, tt))), (a, tt)), tt))
+
 two_good : (f : core.Exp → core.Exp → core.Exp) (n : ℕ) (d e : Elaborated) → Good n d → Good (n + length d.groups) e → ((m : ℕ) → Below m d.exp → Below m e.exp → Below m (f d.exp e.exp))
     → Good n (record { exp = f d.exp e.exp; groups = d.groups ++ e.groups })
 two_good f n d e a b h =
@@ -244,7 +248,8 @@ mutual
   good s n (source.Label e) = let h : Good n (elaborate (labelled s) n e) = good (labelled s) n e in record { exp = h.exp; groups = h.groups }
   good s n (While c d) =
       let x : Elaborated = elaborate (inside s) n c in
-      two_good (λ y z. core.Label (core.Loop (if_true y z (break_with nothing)))) n x (elaborate (inside s) (n + length x.groups) d) (good (inside s) n c) (good (inside s) (n + length x.groups) d) (λ m a b. ((b, (tt, (tt, tt))), (a, tt)))
+      let y : Elaborated = elaborate (beside 1 (loop_scope c s)) (n + length x.groups) d in
+      two_good (λ y z. loop_of c y z) n x y (good (inside s) n c) (good (beside 1 (loop_scope c s)) (n + length x.groups) d) (λ m a b. loop_below m (is_true c) x.exp y.exp a b)
   good s n (Repeat d c) =
       let x : Elaborated = elaborate (inside s) n d in
       two_good (λ y z. core.Label (core.Loop (let_in y (if_true z nothing (break_with nothing))))) n x (elaborate (beside 1 (inside s)) (n + length x.groups) c) (good (inside s) n d) (good (beside 1 (inside s)) (n + length x.groups) c)
@@ -252,9 +257,9 @@ mutual
   good s n (For p e d) =
       let x : Elaborated = elaborate s n e in
       let c : Checked = on_nearest p (beside 1 s) in
-      two_good (λ y z. let_in y (core.Label (core.Loop (core.Do (core.Match constructor.Present (around_all c.checks fails z) (break_with nothing)) (one (next_of (core.Name 0))))))) n x (elaborate (inside (behind c s)) (n + length x.groups) d)
+      two_good (λ y z. let_in y (core.Label (core.Loop (let_in element_of (around_all c.checks fails z))))) n x (elaborate (inside (behind c s)) (n + length x.groups) d)
       (good s n e) (good (inside (behind c s)) (n + length x.groups) d)
-      (λ m a b. (((around_below m c.checks fails (elaborate (inside (behind c s)) (n + length x.groups) d).exp (check_below m p (Named (1 + s.names)) (suc (1 + s.names)) tt) (tt, tt) b, (tt, (tt, tt))), ((tt, ((tt, (tt, tt)), tt)), tt)), (a, tt)))
+      (λ m a b. ((around_below m c.checks fails (elaborate (inside (behind c s)) (n + length x.groups) d).exp (check_below m p (Named (1 + s.names)) (suc (1 + s.names)) tt) (tt, tt) b, (((tt, (tt, (tt, tt))), ((tt, ((tt, (tt, tt)), tt)), tt)), tt)), (a, tt)))
   good s n (source.Try e p d) =
       let x : Elaborated = elaborate s n e in
       two_good (λ y z. core.Try y (around_all (on_nearest p s).checks fails z)) n x (elaborate (behind (on_nearest p s) s) (n + length x.groups) d) (good s n e) (good (behind (on_nearest p s) s) (n + length x.groups) d)
@@ -309,9 +314,9 @@ mutual
 
 -- ---- programs
 
-save_good : (places : List Place) (n : ℕ) (o : Option Hook) (cells : core.Exps) → MakesGroups n (save_of places n o cells).groups
-save_good places n None cells = tt
-save_good places n (Some h) cells =
+save_good : (stable : ℕ) (places : List Place) (n : ℕ) (o : Option Hook) (cells : core.Exps) → MakesGroups n (save_of stable places n o cells).groups
+save_good stable places n None cells = tt
+save_good stable places n (Some h) cells =
     let a : Good n (elaborate (record (behind (on_parameters h.parameters (outside places)) (outside places)) { exits = 0 ∷ []; labels = 1 }) n h.body) =
     good (record (behind (on_parameters h.parameters (outside places)) (outside places)) { exits = 0 ∷ []; labels = 1 }) n h.body in
     a.groups
@@ -332,10 +337,10 @@ module _ (methods kept : ℕ) where
       let known : List Place = replicate (count fns) Nowhere ++ (numbered (suc (suc methods)) places ++ replicate kept Nowhere) in
       let e : Elaborated = start_end s n (count fns) places (hook_of after fns) in
       let m : BodiesElaborated = elaborate_functions (outside known) (n + length e.groups) (firsts methods fns) in
-      let v : SaveElaborated = save_of known (n + length e.groups + length m.groups) (hook_of before fns) (held_in known (cells_of cells)) in
+      let v : SaveElaborated = save_of kept known (n + length e.groups + length m.groups) (hook_of before fns) (held_in known (cells_of cells)) in
       let a : GoodBodies (n + length e.groups) m = good_functions (outside known) (n + length e.groups) (firsts methods fns) in
       groups_and e.groups (m.groups ++ v.groups) n (start_good s n (count fns) places (hook_of after fns))
-      (groups_and m.groups v.groups (n + length e.groups) a.groups (save_good known (n + length e.groups + length m.groups) (hook_of before fns) (held_in known (cells_of cells))))
+      (groups_and m.groups v.groups (n + length e.groups) a.groups (save_good kept known (n + length e.groups + length m.groups) (hook_of before fns) (held_in known (cells_of cells))))
 
   actor_good : (s : Scope) (n : ℕ) (e : Exp) → MakesGroups n (elaborate_actor methods kept s n e).groups
   actor_good s n (Switch e (ACase p b NoCase)) =

@@ -2,27 +2,31 @@
 use Rattle.std.proofs.Common.{◌≡◌, inl, inr, ℕ, zero, suc, ◌+◌, ◌-◌, true, false, List, [], ◌∷◌, ◌++◌, length, length-append, map, Option, Some, None, arith, refl, sym, ap, ap₂, ◌∙◌, subst}
 use Rattle.mo_types.specs.declared.node.Sort.TheVariants as sort
 use Rattle.mo_types.specs.declared.node.TypeId.{TypeId}
+use Rattle.std.specs.Prelude.{replicate}
 use Rattle.mo_types.specs.Graph.{Slot}
+use Rattle.mo_types.specs.Values.{copies}
+use Rattle.typed_tree.specs.declared.expression.Function.{Function}
 use Rattle.typed_tree.specs.declared.expression.Step.{Step}
 use Rattle.typed_tree.specs.declared.pattern.TypedPattern.{TypedPattern}
 use Rattle.typed_tree.specs.declared.program.Method.{Method}
 use Rattle.typed_tree.specs.declared.program.StableVariable.{StableVariable}
 use Rattle.typed_tree.specs.ActionTypes.{Context}
 use Rattle.typed_tree.specs.Language.{Exp, Functions, Val, Name, Do, If, Switch, Group, Frame, Label, While, Repeat, For, Try, Update}
-use Rattle.typed_tree.specs.ProgramView.{context_pattern, with_context, functions_of, parts}
+use Rattle.typed_tree.specs.ProgramView.{context_pattern, with_context, functions_of, optional_function, optional_name, parts}
 use Rattle.typed_tree.specs.Substitution.{count}
 use Rattle.typed_tree.specs.Typing.{with_names}
-use Rattle.typed_tree.specs.View.{group, block, declaration, function}
-use Rattle.typed_tree.specs.Wants.{Want, KeptOf, in_function}
-use Rattle.typed_tree.specs.WellTyped.{AllDeclare, AreMethods, ContextNames, around}
-use Rattle.elaboration.specs.Scopes.{Place, Scope, under, in_body}
+use Rattle.typed_tree.specs.View.{FunctionView, group, block, declaration, function}
+use Rattle.typed_tree.specs.Wants.{Want, Anything, KeptOf, in_function}
+use Rattle.typed_tree.specs.WellTyped as well_typed
+use Rattle.typed_tree.specs.WellTyped.{AllDeclare, AreMethods, ContextNames, IsSystem, around}
+use Rattle.elaboration.specs.Scopes.{Place, Nowhere, Scope, under, in_body}
 use Rattle.elaboration.specs.Checks.{Named, Source, check, check_all, behind}
 use Rattle.elaboration.specs.Elaboration.{number_of_parameters, on_nearest, on_parameters}
-use Rattle.elaboration.specs.Programs.{kept_places, own_from, start_scope}
-use Rattle.elaboration_forms.specs.Elaborates.{StandFunctions, DeclarationsStand}
-use Rattle.elaboration_premises.specs.Scoped.{Seen, Written, TreesStand}
+use Rattle.elaboration.specs.Programs.{Hook, hook_at, hook_of, kept_places, own_from, start_scope}
+use Rattle.elaboration_forms.specs.Elaborates.{unseen, StandFunctions, StandsAlone, DeclarationsStand}
+use Rattle.elaboration_premises.specs.Scoped.{Seen, Written, WrittenFunctions, TreesStand}
 use Rattle.elaboration_premises.specs.Programs.{StartsStand, MethodsStand, HooksStand}
-use Rattle.elaboration_premises.proofs.Trees.{Opening, bound_seen, group_seen, not_shared, bound_by, step_holds, function_holds, expression_holds}
+use Rattle.elaboration_premises.proofs.Trees.{Opening, inside_seen, bound_seen, group_seen, not_shared, bound_by, step_holds, function_holds, expression_holds}
 
 pub trees_stand : TreesStand
 trees_stand types e c w h b s k i = expression_holds types e c w h b s k i
@@ -72,9 +76,9 @@ group_declared s fns (Try e p b) h i = absurd i
 group_declared s fns (Update o e f) h i = absurd i
 
 module _ (types : List Slot) where
-  declared : (ds : List Step) (c end : Context) → AllDeclare types c ds end → c.body ≡ sort.Local → (last : Exp) → ((s : Scope) → DeclarationsStand s last) → (s : Scope) → Seen c.names s.places → Written (block (map declaration ds) last)
+  declared : (ds : List Step) (c end : Context) → AllDeclare types c ds end → c.body ≡ sort.Local → (last : Exp) → ((s : Scope) → Seen end.names s.places → Written last → DeclarationsStand s last) → (s : Scope) → Seen c.names s.places → Written (block (map declaration ds) last)
       → DeclarationsStand s (block (map declaration ds) last)
-  declared [] c end h l last e s k i = e s
+  declared [] c end h l last e s k i = e s (subst (λ (c : Context). Seen c.names s.places) (sym h) k) i
   declared (d ∷ ds) c end h l last e s k i =
       let r = step_holds types d c h.0 h.1 false s (k, not_shared c.body false l) (block (map declaration ds) last) i in
       by r.0 (λ t q. declared ds (with_names h.0 c) end h.2 l last e t q r.1)
@@ -103,7 +107,57 @@ kept_seen : (vs : List StableVariable) → Seen (map (λ v. KeptOf v.of_type) vs
 kept_seen [] = tt
 kept_seen (v ∷ vs) = (λ u. tt, kept_seen vs)
 
+-- ---- the hook behind an upgrade
+
+assoc : {A : Type 0} (xs ys zs : List A) → (xs ++ ys) ++ zs ≡ xs ++ (ys ++ zs)
+assoc [] ys zs = refl
+assoc (x ∷ xs) ys zs = ap (λ r. x ∷ r) (assoc xs ys zs)
+
+mapped_many : {A B : Type 0} (f : A → B) (xs : List A) → length (map f xs) ≡ length xs
+mapped_many f [] = refl
+mapped_many f (x ∷ xs) = ap suc (mapped_many f xs)
+
+group_many : (fs : List FunctionView) → count (group fs) ≡ length fs
+group_many [] = refl
+group_many (f ∷ fs) = ap suc (group_many fs)
+
+-- functions that nothing uses have no place
+copies_seen : (n : ℕ) (ws : List (Want TypeId)) (places : List Place) → Seen (map in_function ws) places → Seen (map in_function (copies n Anything ++ ws)) (replicate n Nowhere ++ places)
+copies_seen zero ws places h = h
+copies_seen (suc n) ws places h = (λ u. absurd u, copies_seen n ws places h)
+
+last_hook : (fs : List FunctionView) (f : FunctionView) → hook_at (length fs) (group (fs ++ f ∷ [])) ≡ Some (record { nodes = f.nodes; parameters = f.parameters; body = f.body })
+last_hook [] f = refl
+last_hook (g ∷ fs) f = last_hook fs f
+
+last_written : (fs : List FunctionView) (f : FunctionView) → WrittenFunctions (group (fs ++ f ∷ [])) → Written f.body
+last_written [] f h = h.0
+last_written (g ∷ fs) f h = last_written fs f (h.1)
+
+hook_alone : (types : List Slot) (c : Context) (fs : List FunctionView) (o : Option Function) → IsSystem types c o → (n : ℕ) → n ≡ length fs → WrittenFunctions (group (fs ++ optional_function o)) → (m : ℕ) (s : Scope) → Seen (map in_function c.names) (replicate m Nowhere ++ s.places)
+    → StandsAlone s m (hook_of (optional_name n o) (group (fs ++ optional_function o)))
+hook_alone types c fs None h n e w m s k = tt
+hook_alone types c fs (Some f) h n e w m s k =
+    subst (λ i. StandsAlone s m (hook_at i (group (fs ++ function f ∷ [])))) (sym e)
+    (subst (λ (o : Option Hook). StandsAlone s m o) (sym (last_hook fs (function f))) (hooks_stand types c f h (last_written fs (function f) w) (unseen m s) k, tt))
+
 pub starts_stand : StartsStand
 starts_stand p w i =
-    declared p.types p.declarations (around p.types w.own w.methods p.stable) w.end w.declarations refl (Group (group (functions_of p)) (parts p)) (λ s. tt) (start_scope (length p.methods) (length p.stable))
+    declared p.types p.declarations (around p.types w.own w.methods p.stable) w.end w.declarations refl (Group (group (functions_of p)) (parts p)) at_end (start_scope (length p.methods) (length p.stable))
     (own_seen (w.own ∷ w.methods) (map (λ v. KeptOf v.of_type) p.stable) 0 (suc (length p.methods)) (kept_places (length p.stable)) (ap suc (methods_counted p.types p.methods w.methods w.methods_are)) (kept_seen p.stable)) i
+  where
+    methods : List FunctionView
+    methods = map (λ m. with_context m.context (function m.function)) p.methods
+
+    before : List FunctionView
+    before = optional_function p.before_upgrade
+
+    many : length p.methods + length before ≡ length (methods ++ before)
+    many = ap (λ n. n + length before) (sym (mapped_many (λ (m : Method). with_context m.context (function m.function)) p.methods)) ∙ sym (length-append methods before)
+
+    at_end : (s : Scope) → Seen w.end.names s.places → Written (Group (group (functions_of p)) (parts p)) → DeclarationsStand s (Group (group (functions_of p)) (parts p))
+    at_end s k i =
+        subst (λ fs. WrittenFunctions (group fs) → StandsAlone s (count (group (functions_of p))) (hook_of (optional_name (length p.methods + length before) p.after_upgrade) (group fs))) (assoc methods before (optional_function p.after_upgrade))
+        (λ written. hook_alone p.types (well_typed.behind p w.end) (methods ++ before) p.after_upgrade w.after_upgrade (length p.methods + length before) many written (count (group (functions_of p))) s
+        (subst (λ n. Seen (map in_function (copies (length (functions_of p)) Anything ++ w.end.names)) (replicate n Nowhere ++ s.places)) (sym (group_many (functions_of p)))
+        (copies_seen (length (functions_of p)) w.end.names s.places (inside_seen w.end.names s.places k)))) (i.0)

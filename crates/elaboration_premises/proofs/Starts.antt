@@ -45,7 +45,7 @@ use Rattle.program_soundness.specs.Declared.{Declared, Last, Before}
 use Rattle.program_soundness.specs.Exports.{HookTyped, ExportsTyped}
 use Rattle.program_soundness.specs.Results.{GivesResults, AreResults}
 use Rattle.program_soundness.specs.Roles.{AHook, IsFunctionAs}
-use Rattle.program_soundness.specs.Runs.{IsTypedState}
+use Rattle.program_soundness.specs.Runs.{IsTypedState, Stands}
 use Rattle.program_soundness.specs.Starting.{Soon, AllSoon, IsExporting, IsInstalling, AreExports, IsHooking, IsUpgrading, Begun, Looks, Found, Calls, Runs, Ends}
 use Rattle.program_soundness.specs.Starts.{quiet}
 use Rattle.program_soundness.specs.Worlds.{running, kept_type}
@@ -160,7 +160,7 @@ module _ (types : List Slot) (p : Program) (answers : AnswerTypes) (kinds : List
   exporting_placed e (inr (inl h)) = Operated _ h.0 h.2 (soon_simple (head_at types) h.0 h.1 h.3)
   exporting_placed e (inr (inr h)) = Done h.0 h.1
 
-  installing_placed : (e : Exp) → IsInstalling types p answers kinds e → P e
+  pub installing_placed : (e : Exp) → IsInstalling types p answers kinds e → P e
   installing_placed e (inl h) = Framed h.0 h.1 h.2 (exporting_placed h.1 h.3)
   installing_placed e (inr h) = Done h.0 h.1
 
@@ -172,7 +172,7 @@ module _ (types : List Slot) (p : Program) (answers : AnswerTypes) (kinds : List
   hooking_placed e (Runs v b q h k) = Named _ b _ q tt (InContext (closed []) (Of k.0) k.2)
   hooking_placed e (Ends v q h) = Done v q
 
-  upgrading_placed : (e : Exp) → IsUpgrading types p answers kinds e → P e
+  pub upgrading_placed : (e : Exp) → IsUpgrading types p answers kinds e → P e
   upgrading_placed e (inl q) = Operated _ typed.NoExp q tt
   upgrading_placed e (inr (inl h)) = Framed h.0 h.1 h.2 (hooking_placed h.1 h.3)
   upgrading_placed e (inr (inr h)) = Done h.0 h.1
@@ -194,19 +194,26 @@ module _ (coding : Coding) (faithful : IsFaithful coding) (p : Program) (w : Wel
       subst (λ x. IsUpgrading p.types p quiet [] (typed.Frame p.nodes (then_hook (put x (program p).body)))) (sym (outer_same own (program p).methods os))
       (inr (inl (p.nodes, then_hook (declared own (program p) os), refl, Begun (declared own (program p) os) refl (exporting p w lawful own short quiet [] os (kept_fit p.types quiet [] ts p.stable os h q)))))
 
-  start_served : (kept : Option Kept) → Served (λ j. steps s j (start_from coding p.types (program p) own kept))
-  start_served None =
-      on_the_way s w.types w.basics (IsInstalling p.types p) (AreExports p.types p) (installing_kept p lawful) (installing_placed p.types p) quiet [] (start_from coding p.types (program p) own None) (
-        quiet_state s (start_from coding p.types (program p) own None) refl refl,
-        subst (λ x. IsInstalling p.types p quiet [] (typed.Frame p.nodes (put x (program p).body))) (sym (outer_same own (program p).methods (nothing_kept (program p).stable)))
-            (installing p w lawful own short quiet [] (nothing_kept (program p).stable) (nothing_fits p.types quiet [] p.stable)),
-      )
-  start_served (Some kept) =
-      let ts = all_taken coding kept.types p.types kept.variables (program p).stable in
-      on_the_way s w.types w.basics (IsUpgrading p.types p) (AreExports p.types p) (upgrading_kept p lawful) (upgrading_placed p.types p) quiet [] (start_from coding p.types (program p) own (Some kept)) (
+  -- a start is typed where it begins
+  pub install_stands : Stands s (IsInstalling p.types p) (AreExports p.types p) (unload_configuration (start_from coding p.types (program p) own None)) quiet []
+  install_stands = (
+    quiet_state s (start_from coding p.types (program p) own None) refl refl,
+    subst (λ x. IsInstalling p.types p quiet [] (typed.Frame p.nodes (put x (program p).body))) (sym (outer_same own (program p).methods (nothing_kept (program p).stable)))
+        (installing p w lawful own short quiet [] (nothing_kept (program p).stable) (nothing_fits p.types quiet [] p.stable)),
+  )
+
+  pub upgrade_stands : (kept : Kept) → Stands s (IsUpgrading p.types p) (AreExports p.types p) (unload_configuration (start_from coding p.types (program p) own (Some kept))) quiet []
+  upgrade_stands kept =
+      let ts = all_taken coding kept.types p.types kept.variables (program p).stable in (
         quiet_state s (start_from coding p.types (program p) own (Some kept)) refl refl,
         upgraded (all_kept ts) ts (taken_fit p.types quiet [] w.types coding faithful kept.types kept.variables p.stable (variables_share p.types w.end p.stable w.stable)) refl,
       )
+
+  start_served : (kept : Option Kept) → Served (λ j. steps s j (start_from coding p.types (program p) own kept))
+  start_served None =
+      on_the_way s w.types w.basics (IsInstalling p.types p) (AreExports p.types p) (installing_kept p lawful) (installing_placed p.types p) quiet [] (start_from coding p.types (program p) own None) install_stands
+  start_served (Some kept) =
+      on_the_way s w.types w.basics (IsUpgrading p.types p) (AreExports p.types p) (upgrading_kept p lawful) (upgrading_placed p.types p) quiet [] (start_from coding p.types (program p) own (Some kept)) (upgrade_stands kept)
 
 pub starts_serve : StartsServe
 starts_serve coding faithful p w own short kept = start_served coding faithful p w own short kept
@@ -215,7 +222,7 @@ starts_serve coding faithful p w own short kept = start_served coding faithful p
 
 -- the part of what an actor exports that is an option of this hook
 module _ (types : List Slot) (answers : AnswerTypes) (kinds : List TypeId) where
-  abbrev OptionTyped : Option machine.Value → Type 0
+  abbrev pub OptionTyped : Option machine.Value → Type 0
   OptionTyped None = Unit {0}
   OptionTyped (Some f) = IsFunctionAs types answers kinds AHook (unload f)
 
@@ -226,7 +233,7 @@ module _ (types : List Slot) (answers : AnswerTypes) (kinds : List TypeId) where
       subst (IsFunctionAs types answers kinds AHook) (let y : g ≡ unload f = cc in y) h
   option_typed v h = tt
 
-  hook_there : (e : machine.Value) (p : language.Program) → ExportsTyped types answers kinds p (unload e) → OptionTyped (before_upgrade e)
+  pub hook_there : (e : machine.Value) (p : language.Program) → ExportsTyped types answers kinds p (unload e) → OptionTyped (before_upgrade e)
   hook_there (machine.Made h (machine.AValue a (machine.AValue b vs))) p x =
       let q : typed.Made h (typed.AValue (unload a) (typed.AValue (unload b) (unload_all vs)))
       ≡ typed.Made Tuple (typed.AValue (typed.Made Tuple x.functions) (typed.AValue x.before (typed.AValue x.after (typed.AValue (typed.Made (Object x.labels) x.cells) typed.NoValue)))) = x.is in
@@ -246,13 +253,13 @@ module _ (coding : Coding) (p : Program) (w : WellTyped p) (own : Bytes) (answer
   law : IsLawful (running p.types).head
   law = lawful_types p.types w.types w.basics
 
-  store_still : (vs : List Value) (ts : List TypeId) → StoreTyped (running types) answers kinds vs ts → StoreTyped (running types) (still answers) kinds vs ts
+  pub store_still : (vs : List Value) (ts : List TypeId) → StoreTyped (running types) answers kinds vs ts → StoreTyped (running types) (still answers) kinds vs ts
   store_still [] [] h = tt
   store_still [] (t ∷ ts) h = absurd h
   store_still (v ∷ vs) [] h = absurd h
   store_still (v ∷ vs) (t ∷ ts) h = (has_still (running types) answers kinds v (Of t) h.0, store_still vs ts h.1)
 
-  state : (c : Configuration) → c.store ≡ fields.cells → c.calls ≡ [] → IsTypedState around (still answers) kinds (unload_configuration c)
+  pub state : (c : Configuration) → c.store ≡ fields.cells → c.calls ≡ [] → IsTypedState around (still answers) kinds (unload_configuration c)
   state c e q = (subst (λ vs. StoreTyped (running types) (still answers) kinds (unload_list vs) kinds) (sym e) (store_still (unload_list fields.cells) kinds fit.cells), (λ m. absurd (true≢false (sym m))), λ n. q)
 
   abbrev nodes : ℕ

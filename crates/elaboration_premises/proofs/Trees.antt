@@ -36,7 +36,7 @@ use Rattle.elaboration.specs.Scopes.{Place, Local, Scope, place_or_nowhere, besi
 use Rattle.elaboration.specs.Scopes as scopes
 use Rattle.elaboration.specs.Checks.{Named, Source, check, check_all, behind, locals}
 use Rattle.elaboration.specs.Members.{form_of}
-use Rattle.elaboration.specs.Elaboration.{number_of_parameters, on_nearest, on_parameters, count_of}
+use Rattle.elaboration.specs.Elaboration.{number_of_parameters, on_nearest, on_parameters, count_of, loop_scope}
 use Rattle.elaboration_forms.specs.Elaborates.{IsLiteral, IsPlace, May, AtOnce, Stands, StandAll, StandNames, StandCases, StandFunctions}
 use Rattle.elaboration_premises.specs.Scoped.{IsUsed, others, Seen, Sees, IsWritten, Written, WrittenAll, WrittenCases, WrittenFunctions}
 use Rattle.elaboration_premises.proofs.Bound.{names_bound, all_bound}
@@ -104,7 +104,7 @@ used_outside (FutureOf t) u = tt
 used_outside (KeptOf t) u = tt
 used_outside (Generic vs t) u = tt
 
-inside_seen : (ws : List (Want TypeId)) (places : List Place) → Seen ws places → Seen (map in_function ws) places
+pub inside_seen : (ws : List (Want TypeId)) (places : List Place) → Seen ws places → Seen (map in_function ws) places
 inside_seen [] places h = tt
 inside_seen (w ∷ ws) places h = (λ u. h.0 (used_outside w u), inside_seen ws (others places) h.1)
 
@@ -354,8 +354,8 @@ module _ (types : List Slot) where
   form_stands (F.Do a es) c w h u b s k i = let r = each_stands es c h.0 h.2 b s k i.1 in acts_stand (head_at types) c a h.0 w b s (exps (map expression (map (λ z. z.0) es))) k.1 i.0 h.1 r.1 r.0
   form_stands (F.If e x y) c w h u b s k i = (e.1 c _ h.4 b s k i.0, x.1 c w h.5 b s k i.1, y.1 c w h.6 b s k i.2)
   form_stands (F.Switch token e xs) c w h u b s k i = switch_stands (expression e.0) xs c h.1 w h.4 b s k i.1 (e.1 c _ h.3 b s k i.0)
-  form_stands (F.While e x) c w h u b s k i = (e.1 c _ h.5 b (inside s) k i.0, x.1 c w h.6 b (inside s) k i.1)
-  form_stands (F.Loop x) c w h u b s k i = ((tt, x.1 c _ h.5 b (inside s) k i.0.1), (tt, tt))
+  form_stands (F.While e x) c w h u b s k i = (e.1 c _ h.5 b (inside s) k i.0, x.1 c w h.6 b (beside 1 (loop_scope (expression e.0) s)) k i.1)
+  form_stands (F.Loop x) c w h u b s k i = ((tt, x.1 c _ h.5 b (beside 1 s) k i.0.1), (tt, tt))
   form_stands (F.Repeat x e) c w h u b s k i = (x.1 c w h.5 b (inside s) k i.0, e.1 c _ h.6 b (beside 1 (inside s)) k i.1)
   form_stands (F.For p e x) c w h u b s k i = (
     e.1 c _ h.7 b s k i.0,

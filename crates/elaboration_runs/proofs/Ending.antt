@@ -88,7 +88,7 @@ module _ (program : Core) (context : Context) (nodes : ℕ) (s : Surroundings) (
   Whole-run c = (j : ℕ) (c' : Configuration) → steps s j c ≡ Ended c' configuration.Breaks → ⊥
 
   -- the execution has ended after so many steps: so has the run
-  abbrev IsDone : (known : List Known) (w d : ℕ) (prints : List Bytes) (world : World) (f : Focus) (k : List Frame) → Run → Type 0
+  abbrev pub IsDone : (known : List Known) (w d : ℕ) (prints : List Bytes) (world : World) (f : Focus) (k : List Frame) → Run → Type 0
   IsDone known w d prints world f k (Still c') = Unit {0}
   IsDone known w d prints world f k (Ended c' end) = Finishes program context nodes known w d prints world f k (Ended c' end)
 
@@ -136,7 +136,7 @@ module _ (program : Core) (context : Context) (nodes : ℕ) (s : Surroundings) (
           (λ c' e. no_end program context nodes s head_is same accounted o.known' o.weight' o.depth' o.prints' o.world' r' o.end c' o.finish e))
       by r is (one.IsBroken c1) = absurd (whole 1 c1 (ap (then_steps s (steps s 0)) is))
 
-  done : (n : ℕ) → Done n
+  pub done : (n : ℕ) → Done n
   done zero held known c w d prints world f k t calls serves whole = tt
   done (suc n) held known c w d prints world f k t calls serves whole = done_after n (done n) held known c w d prints world f k t calls serves whole
 

@@ -30,7 +30,7 @@ use Rattle.mo_machine.specs.Frames.{Ready}
 use Rattle.mo_machine.specs.Jumps.{throw, nodes_around}
 use Rattle.mo_machine.specs.Moves.{Move, Moved, Ends, Reduces, move}
 use Rattle.mo_machine.specs.Reductions.{reduces}
-use Rattle.mo_machine.specs.Turns.{resume_call, message, call_cost, call_of, rejects, given_turn, give, send, resumes, awaits, turn, after, step, steps}
+use Rattle.mo_machine.specs.Turns.{resume_call, message, call_cost, call_of, rejects, given_turn, give, send, resumes, awaits, turn, after, step}
 use Rattle.elaboration_values.specs.Belonging.{Known, EachBelongs}
 use Rattle.elaboration_steps.specs.Stacks.{WorldBelongs}
 use Rattle.elaboration_steps.proofs.Standing.{IsOutside, here_alone}
@@ -324,3 +324,10 @@ module _ (program : Core) (context : Context) (nodes : ℕ) (s : Surroundings) (
 
   pub outcome : Outcome (step s c)
   outcome = at_focus c.focus refl
+
+  -- a reduction that traps
+  pub traps_off : (cost : Cost) (text : Bytes) → reduces context.head None c.store c.focus c.stack ≡ Traps cost text → (o : Off (Ended (weighed cost c) (configuration.Traps text))) × (o.end ≡ execution.Traps text)
+  unfolding off shows
+  traps_off cost text e =
+      let u : Over-with (weighed cost c) (execution.Traps text) = subst To e ((turns program context nodes held known c w d prints world f k t (serves.suits known)).1) in
+      (off (weighed cost c) (execution.Traps text) _ u (Trapped (weighed cost c) text (shows (weighed cost c) (execution.Traps text) u)), refl)

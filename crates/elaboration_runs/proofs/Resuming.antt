@@ -16,7 +16,7 @@ use Rattle.mo_machine.specs.Frames as machine
 use Rattle.mo_machine.specs.Frames.{Stack, Ready}
 use Rattle.elaboration.specs.Meeting.{There}
 use Rattle.elaboration_values.specs.Belonging.{Known, Belongs}
-use Rattle.elaboration_steps.specs.Stacks.{Labels, StackBelongs, WorldBelongs, Bottom, InFunction, InGathering, InOperands, InMaking, InCalling, InHolding, InChoosing, InLet, InSwitch, InLabel, InTesting, InTurning, InRepeating, InRetesting, InTry, InUpdating, InGoing, InTurn, InBody, InBranch, InCase, AtAction, AtValue, Here}
+use Rattle.elaboration_steps.specs.Stacks.{Labels, StackBelongs, WorldBelongs, Bottom, InFunction, InGathering, InOperands, InMaking, InCalling, InHolding, InChoosing, InLet, InSwitch, InLabel, InTesting, InTurning, InRepeating, InRetesting, InTry, InUpdating, InGoing, InTurn, InBody, InBranch, InCase, AtAction, AtValue, Here, InEndless}
 use Rattle.elaboration_steps.specs.Follows.{owed}
 use Rattle.elaboration_steps.proofs.Depth.{as_deep}
 use Rattle.elaboration_runs.specs.Resuming.{endings, throwing, GoesWith, ThrowsWith, AnswersFollow}
@@ -54,6 +54,8 @@ module _ (table : List (programs.Group core.Body)) (known : List Known) (globals
       let u : Less x m j cj = less x m h j cj r in let fits : u.held ≤ endings j = u.few in record { held = u.held; few = omega (arith, fits); around = InTesting x m u.held y z env j c d vals cj p q u.around }
   less b l held k ck (InTurning x m h y z env j c d vals cj p q r) =
       let u : Less x m j cj = less x m h j cj r in let fits : u.held ≤ endings j = u.few in record { held = u.held; few = omega (arith, fits); around = InTurning x m u.held y z env j c d vals cj p q u.around }
+  less b l held k ck (InEndless x m h y env j d vals cj q r) =
+      let u : Less x m j cj = less x m h j cj r in let fits : u.held ≤ endings j = u.few in record { held = u.held; few = omega (arith, fits); around = InEndless x m u.held y env j d vals cj q u.around }
   less b l held k ck (InRepeating x m h y z env j c d vals cj p q r) =
       let u : Less x m j cj = less x m h j cj r in let fits : u.held ≤ endings j = u.few in record { held = u.held; few = omega (arith, fits); around = InRepeating x m u.held y z env j c d vals cj p q u.around }
   less b l held k ck (InRetesting x m h y z env j c d v vals cj p q r) =

@@ -34,7 +34,7 @@ use Rattle.mo_machine.specs.Turns.{message, resume_call}
 use Rattle.elaboration.specs.Meeting as meeting
 use Rattle.elaboration.specs.Meeting.{Joins, Comes, There}
 use Rattle.elaboration_values.specs.Belonging.{Known, Belongs, EachBelongs}
-use Rattle.elaboration_steps.specs.Stacks.{Passed, Labels, StackBelongs, Bottom, InFunction, InGathering, InOperands, InMaking, InCalling, InHolding, InChoosing, InLet, InSwitch, InLabel, InTesting, InTurning, InRepeating, InRetesting, InTry, InUpdating, InGoing, InTurn, InBody, InBranch, InCase, StateBelongs, AtAction, AtInner, AtTurned, AtLeft, Later, LaterBy, WorldBelongs, Around}
+use Rattle.elaboration_steps.specs.Stacks.{Passed, Labels, StackBelongs, Bottom, InFunction, InGathering, InOperands, InMaking, InCalling, InHolding, InChoosing, InLet, InSwitch, InLabel, InTesting, InTurning, InRepeating, InRetesting, InTry, InUpdating, InGoing, InTurn, InBody, InBranch, InCase, StateBelongs, AtAction, AtInner, AtTurned, AtLeft, Later, LaterBy, WorldBelongs, Around, InEndless}
 use Rattle.elaboration_steps.specs.Follows.{start, rank, owed, HandlerMeets, Leads, Plainly}
 use Rattle.elaboration_steps.specs.Follows as follows
 use Rattle.elaboration_steps.specs.Running.{least, Runs}
@@ -86,6 +86,7 @@ module _ (table : List (programs.Group core.Body)) (known : List Known) (globals
   lone b l held k ck (InLabel x m h j cj r) same = lone x m h j cj r same
   lone b l held k ck (InTesting x m h y z env j c d vals cj p q r) same = lone x m h j cj r same
   lone b l held k ck (InTurning x m h y z env j c d vals cj p q r) same = lone x m h j cj r same
+  lone b l held k ck (InEndless x m h y env j d vals cj q r) same = lone x m h j cj r same
   lone b l held k ck (InRepeating x m h y z env j d c vals cj p q r) same = lone x m h j cj r same
   lone b l held k ck (InRetesting x m h y z env j d c v vals cj p q r) same = lone x m h j cj r same
   lone b l held k ck (InTry m h p e env j c vals cj q r) same = lone true m h j cj r refl
@@ -111,6 +112,7 @@ module _ (table : List (programs.Group core.Body)) (known : List Known) (globals
   nodes_alone b l held k ck (InLabel x m h j cj r) same n = nodes_alone x m h j cj r same n
   nodes_alone b l held k ck (InTesting x m h y z env j c d vals cj p q r) same n = nodes_alone x m h j cj r same n
   nodes_alone b l held k ck (InTurning x m h y z env j c d vals cj p q r) same n = nodes_alone x m h j cj r same n
+  nodes_alone b l held k ck (InEndless x m h y env j d vals cj q r) same n = nodes_alone x m h j cj r same n
   nodes_alone b l held k ck (InRepeating x m h y z env j d c vals cj p q r) same n = nodes_alone x m h j cj r same n
   nodes_alone b l held k ck (InRetesting x m h y z env j d c v vals cj p q r) same n = nodes_alone x m h j cj r same n
   nodes_alone b l held k ck (InTry m h p e env j c vals cj q r) same n = nodes_alone true m h j cj r refl n

@@ -1,5 +1,5 @@
 -- Where only operations on names and literals are evaluated, nothing is asked of values; and how such an evaluation ends is told by its end.
-use Rattle.std.proofs.Common.{◌≡◌, ◌⊎◌, inl, inr, ℕ, zero, suc, ◌+◌, ◌≤◌, List, [], ◌∷◌, ◌++◌, Option, Some, None, refl, sym, ap, ◌∙◌, subst, arith}
+use Rattle.std.proofs.Common.{◌≡◌, Bool, ◌⊎◌, inl, inr, ℕ, zero, suc, ◌+◌, ◌≤◌, List, [], ◌∷◌, ◌++◌, Option, Some, None, refl, sym, ap, ◌∙◌, subst, arith}
 use Rattle.mo_types.specs.Graph.{head_at}
 use Rattle.mo_values.specs.declared.operation.Operation.{Operation}
 use Rattle.mo_values.specs.Costs.{Cost, weighing, operation_cost}
@@ -83,7 +83,7 @@ pub names_plain : (i n : ℕ) → ArePlain (names_from i n)
 names_plain i zero = tt
 names_plain i (suc n) = (tt, names_plain (suc i) n)
 
-pub base_calm : (k l : Stack) → Bases k l → CalmStack l
+pub base_calm : {t : Bool} → (k l : Stack) → Bases t k l → CalmStack l
 base_calm k l (Alone n) = tt
 base_calm k l (Hooked n env) = tt
 base_calm k l (Joined k' l' b) = base_calm k' l' b

@@ -1,31 +1,38 @@
 -- The start of an elaborated program is code of the declarations with a tuple of all their names at the end, and its methods are code of the functions
 -- behind them.
-use Rattle.std.proofs.Common.{◌≡◌, ℕ, zero, suc, ◌+◌, ◌-◌, List, [], ◌∷◌, ◌++◌, length, Option, Some, None, slice_get, false, refl, sym, ap, ap₂, ◌∙◌, subst, arith}
+use Rattle.std.proofs.Common.{◌≡◌, inl, inr, ℕ, zero, suc, ◌+◌, ◌-◌, ◌≤◌, Bool, List, [], ◌∷◌, ◌++◌, length, Option, Some, None, slice_get, false, refl, sym, ap, ap₂, ◌∙◌, subst, arith}
 use Rattle.std.specs.Prelude.{take, replicate}
 use Rattle.std.specs.List.{AllByRecursion}
+use Rattle.mo_types.specs.declared.datum.Datum.TheVariants as part
+use Rattle.mo_types.specs.declared.node.Sort.TheVariants as sort
 use Rattle.mo_values.specs.Shapes.{Bytes}
 use Rattle.mo_values.specs.declared.operation.Operation.TheVariants as op
+use Rattle.core_ir.specs.declared.constant.Constant.TheVariants as constant
 use Rattle.core_ir.specs.Programs.{Group}
 use Rattle.core_ir.specs.Expressions as core
 use Rattle.core_ir.specs.Expressions.{Body}
+use Rattle.typed_tree.specs.declared.action.Action.TheVariants as action
 use Rattle.typed_tree.specs.Patterns as pattern
 use Rattle.typed_tree.specs.Patterns.{Pat, Pats, Wildcard, Constant, Present?, Tagged, Parts, Fields, Either, NoPat, APat}
 use Rattle.typed_tree.specs.Language as source
-use Rattle.typed_tree.specs.Language.{Exp, Functions}
+use Rattle.typed_tree.specs.Language.{Exp, Functions, NoFunction, AFunction}
 use Rattle.typed_tree.specs.Substitution.{count}
-use Rattle.elaboration.specs.Scopes.{Place, Local, Own, Nowhere, Scope, at_place, place_or_nowhere, places_from, under}
-use Rattle.elaboration.specs.Checks.{Checked, Source, Named, level_of, names_with, part_of, field_of, check, check_parts, check_fields, locals, behind}
-use Rattle.elaboration.specs.Members.{Elaborated}
-use Rattle.elaboration.specs.Elaboration.{BodiesElaborated, elaborate, elaborate_functions, on_nearest}
-use Rattle.elaboration.specs.Programs.{Actor, own_from, kept_places, values_of, numbered, firsts, outside, start_end, around_start, elaborate_actor, SaveElaborated, save_of, hook_of, held_in}
-use Rattle.elaboration_forms.specs.Elaborates.{IsPlace, HasGroups, Elaborates, ElaboratesAll, StandFunctions, DeclarationsStand}
+use Rattle.elaboration.specs.Scopes.{Place, Local, Own, Nowhere, Scope, one, nothing, at_place, place_or_nowhere, places_from, under, in_body}
+use Rattle.elaboration.specs.Checks.{Checked, Source, Named, level_of, names_with, part_of, field_of, check, check_parts, check_fields, around_all, fails, locals, behind}
+use Rattle.elaboration.specs.Members.{Elaborated, let_in}
+use Rattle.elaboration.specs.Elaboration.{BodiesElaborated, elaborate, elaborate_functions, if_true, number_of_parameters, on_nearest, on_parameters}
+use Rattle.elaboration.specs.Programs.{Actor, own_from, kept_places, values_of, numbered, firsts, outside, start_end, around_start, elaborate_actor, Hook, SaveElaborated, save_of, hook_of, held_in, tuple}
+use Rattle.elaboration_forms.specs.Elaborates.{IsPlace, HasGroups, unseen, one_of, only, Elaborates, ElaboratesAll, ElaboratesFunctions, ElaboratesOne, StandFunctions, StandsAlone, DeclarationsStand}
 use Rattle.elaboration_forms.proofs.Made.{elaborates, elaborates_functions}
+use Rattle.elaboration_runs.specs.Entering.{Function, function_in}
+use Rattle.elaboration_steps.proofs.Groups.{as_many_bodies}
 use Rattle.elaboration_actors.specs.Starts.{MethodBodies, MethodsStand}
 use Rattle.elaboration_actors.proofs.Starts.{methods_are_code}
 use Rattle.elaboration_starts.specs.Declarations as declarations
-use Rattle.elaboration_starts.specs.Declarations.{bound_in, bound_in_all, bound_in_fields, names_from, made, Declares, Opens, Groups, Ends, places_known}
-use Rattle.elaboration_starts.specs.Starts.{HookStands}
-use Rattle.elaboration_starts.proofs.SavedCode.{Owned, SavedBy, save_is_code}
+use Rattle.elaboration_starts.specs.Declarations.{bound_in, bound_in_all, bound_in_fields, names_from, made, hook_name, finish, Declares, Opens, Groups, Ends, places_known}
+use Rattle.elaboration_starts.specs.Starts.{HookStands, CalledBehind}
+use Rattle.elaboration_starts.proofs.SavedCode.{Owned, SavedBy, hook_there, save_is_code}
+use Rattle.elaboration_starts.proofs.Told.{Like, Same, Told, First, Grouped, SameGoal, InBind, like_around, names_counted}
 
 -- ---- lists
 
@@ -138,6 +145,10 @@ in_front [] ys j x e = absurd (let z : None ≡ Some x = e in cc)
 in_front (y ∷ xs) ys zero x e = e
 in_front (y ∷ xs) ys (suc j) x e = in_front xs ys j x e
 
+behind_them : {A : Type 0} (xs ys : List A) (j : ℕ) (y : A) → slice_get ys j ≡ Some y → slice_get (xs ++ ys) (length xs + j) ≡ Some y
+behind_them [] ys j y e = subst (λ n. slice_get ys n ≡ Some y) (let z : j ≡ 0 + j = omega arith in z) e
+behind_them (x ∷ xs) ys j y e = subst (λ n. slice_get (x ∷ (xs ++ ys)) n ≡ Some y) (let z : suc (length xs + j) ≡ suc (length xs) + j = omega arith in z) (behind_them xs ys j y e)
+
 -- ---- declarations
 
 module _ (table : List (Group Body)) where
@@ -147,9 +158,9 @@ module _ (table : List (Group Body)) where
       let r : HasGroups table (suc n) gs × HasGroups table (suc n + length gs) hs = apart gs hs (suc n) (h.1) in
       ((h.0, r.0), subst (λ m. HasGroups table m hs) (let z : suc n + length gs ≡ n + suc (length gs) = omega arith in z) (r.1))
 
-module _ (table : List (Group Body)) (methods kept : ℕ) (last : Functions) (before : Option ℕ) (labels : List Bytes) (cells : List ℕ) (total : ℕ) where
+module _ (table : List (Group Body)) (methods kept : ℕ) (last : Functions) (before after : Option ℕ) (labels : List Bytes) (cells : List ℕ) (total : ℕ) (upgraded : Bool) where
   abbrev D : ℕ → Exp → Exp → Type 0
-  D = Declares methods last before labels cells total
+  D = Declares methods last before after labels cells total upgraded
 
   abbrev outer : List Place
   outer = own_from 0 (suc methods) ++ kept_places kept
@@ -174,34 +185,182 @@ module _ (table : List (Group Body)) (methods kept : ℕ) (last : Functions) (be
   -- what the declarations end in, in Core
   pub record CodeEnds (a : Actor) : Type 0 where
     pub bodies : MethodBodies table (places_known methods kept total last) (firsts methods last) a.methods
-    pub save : SavedBy table (places_known methods kept total last) cells last before a.save
+    pub save : SavedBy table (places_known methods kept total last) cells kept last before a.save
 
   -- what is asked of what stands behind the declarations
   pub record EndStands : Type 0 where
     pub methods_stand : MethodsStand (places_known methods kept total last) (firsts methods last)
     pub hook_stands : HookStands (places_known methods kept total last) last before
+    pub called : CalledBehind last after
     pub cells_owned : AllByRecursion (Owned (places_known methods kept total last)) cells
 
+  -- the start is code of these declarations, where it is told whether this is an upgrade
   pub record IsCode (s : Scope) (c : Exp) (a : Actor) : Type 0 where
-    pub start : Elaborates table false s c a.start
+    pub told : core.Exp
+    pub like : Like table upgraded s.names a.start told
+    pub start : Elaborates table false s c told
     pub ends : CodeEnds a
 
-  tuple_is_code : (s : Scope) (ls : List ℕ) → s.places ≡ places_at ls → length ls ≡ total
-      → Elaborates table false s (made op.MakeTuple (names_from 0 total)) (start_end s 0 (count last) (take (length s.places - kept) s.places) None).exp
-  tuple_is_code s ls at many = (
-    values_of s.names (take (length s.places - kept) s.places),
+  abbrev pub the_end : Scope → ℕ → Option ℕ → Elaborated
+  the_end s n o = start_end s n (count last) (take (length s.places - kept) s.places) (hook_of (hook_name o) last)
+
+  pub record EndIsCode (s : Scope) (n : ℕ) (o : Option ℕ) : Type 0 where
+    pub told : core.Exp
+    pub like : Like table upgraded s.names (the_end s n o).exp told
+    pub code : Elaborates table false s (finish last upgraded o total) told
+
+  -- the names as a tuple, behind so many others
+  tuple_is_code : (s t : Scope) (ls : List ℕ) (before_them : List Place) (i : ℕ) → s.places ≡ places_at ls → length ls ≡ total → t.places ≡ before_them ++ s.places → length before_them ≡ i
+      → Elaborates table false t (made op.MakeTuple (names_from i total)) (tuple (values_of t.names (take (length s.places - kept) s.places)))
+  tuple_is_code s t ls before_them i at many around so_many = (
+    values_of t.names (take (length s.places - kept) s.places),
     tt,
-    subst (λ es. ElaboratesAll table false s (names_from 0 total) es) (sym (ap (λ ps. values_of s.names ps) (front ls s.places at) ∙ values_behind s.names ls 0 (suc methods)))
-        (names_are_code table s ls outer 0 total (sym many) (λ j level e. subst (λ ps. slice_get ps (0 + j) ≡ Some (Local level)) (sym at) (subst (λ m. slice_get (places_at ls) m ≡ Some (Local level)) (let z : j ≡ 0 + j = omega arith in z) (in_front (locals ls) outer j (Local level) e)))),
+    subst (λ es. ElaboratesAll table false t (names_from i total) es) (sym (ap (λ ps. values_of t.names ps) (front ls s.places at) ∙ values_behind t.names ls 0 (suc methods)))
+        (names_are_code table t ls outer i total (sym many) (λ j level e. subst (λ ps. slice_get ps (i + j) ≡ Some (Local level)) (sym around)
+        (subst (λ m. slice_get (before_them ++ s.places) (m + j) ≡ Some (Local level)) so_many (behind_them before_them s.places j (Local level) (subst (λ ps. slice_get ps j ≡ Some (Local level)) (sym at) (in_front (locals ls) outer j (Local level) e)))))),
     refl,
   )
 
+  -- a hook that is called before
+  module _ (s : Scope) (n i : ℕ) (f : Function) (there : function_in last i ≡ Some f) (within : suc i ≤ count last) (ls : List ℕ) (at : s.places ≡ places_at ls) (many : length ls ≡ total) where
+    abbrev t0 : Scope
+    t0 = unseen (count last) s
+
+    abbrev alone : Functions
+    alone = AFunction sort.Local f.nodes f.parameters f.body NoFunction
+
+    abbrev made_alone : BodiesElaborated
+    made_alone = elaborate_functions t0 n alone
+
+    abbrev inner : Elaborated
+    inner = elaborate (behind (on_parameters f.parameters t0) (in_body (number_of_parameters f.parameters) t0)) n f.body
+
+    abbrev b : Body
+    b = record { parameters = number_of_parameters f.parameters; nodes = f.nodes; expression = around_all (on_parameters f.parameters t0).checks fails inner.exp }
+
+    abbrev number : ℕ
+    number = n + length made_alone.groups
+
+    abbrev g : Group Body
+    g = record { sees = s.names; bodies = b ∷ [] }
+
+    abbrev s1 : Scope
+    s1 = only i (count last) s
+
+    abbrev s2 : Scope
+    s2 = behind (on_nearest Wildcard s1) s1
+
+    abbrev names : core.Exp
+    names = tuple (values_of (2 + s.names) (take (length s.places - kept) s.places))
+
+    abbrev calls : core.Exp
+    calls = core.Do core.Call (one (core.Name 0))
+
+    -- whether this is an upgrade is a name, or is told
+    abbrev ending : core.Exp → core.Exp
+    ending c = let_in (if_true c calls nothing) names
+
+    abbrev is_told : core.Exp
+    is_told = core.Constant? (constant.Leaf (part.Flag upgraded))
+
+    ending_like : Like table upgraded (length g.bodies + s.names) (ending (at_place (suc s.names) (Local 0))) (ending is_told)
+    ending_like =
+        subst (λ m. Like table upgraded m (ending (at_place (suc s.names) (Local 0))) (ending is_told)) (let z : suc s.names ≡ 1 + s.names = omega arith in z)
+        (subst (λ m. Like table upgraded (suc s.names) (ending (core.Name m)) (ending is_told)) (let z : s.names ≡ suc s.names - 1 = omega arith in z)
+        (First (suc s.names) _ _ _ _ core.NoExp (SameGoal (suc s.names) _) (First (suc s.names) _ _ _ _ core.NoExp (SameGoal (suc s.names) _) (Told s.names))))
+
+    one_there : (level i n : ℕ) (ps : List Place) → suc i ≤ n → slice_get (one_of level i n ++ ps) i ≡ Some (Local level)
+    one_there level i zero ps h = absurd (let y : ⊥ = omega (arith, h) in y)
+    one_there level zero (suc n) ps h = refl
+    one_there level (suc i) (suc n) ps h = one_there level i n ps (omega (arith, h))
+
+    one_many : (level i n : ℕ) → length (one_of level i n) ≡ n
+    one_many level i zero = refl
+    one_many level zero (suc n) = ap (λ n. suc n) (nowhere_many n)
+      where
+        nowhere_many : (n : ℕ) → length (replicate n Nowhere) ≡ n
+        nowhere_many zero = refl
+        nowhere_many (suc n) = ap (λ n. suc n) (nowhere_many n)
+    one_many level (suc i) (suc n) = ap (λ n. suc n) (one_many level i n)
+
+    call_is_code : Elaborates table false s1 (source.Do action.Call (source.AnExp (source.Name i) source.NoExp)) calls
+    call_is_code =
+        let at : slice_get s1.places i ≡ Some (Local s.names) = one_there s.names i (count last) s.places within in (
+          one (core.Name 0),
+          tt,
+          (
+            core.Name 0,
+            core.NoExp,
+            (
+              subst (λ o. IsPlace (place_or_nowhere o)) (sym at) tt,
+              ap (λ k. core.Name k) (let z : 0 ≡ suc s.names - suc s.names = omega arith in z) ∙ ap (λ o. at_place (suc s.names) (place_or_nowhere o)) (sym at),
+            ),
+            refl,
+            refl,
+          ),
+          refl,
+        )
+
+    rest_is_code : Elaborates table false s1 (source.then (source.If (source.Val (source.leaf (part.Flag upgraded))) (source.Do action.Call (source.AnExp (source.Name i) source.NoExp)) (source.Val source.unit)) (made op.MakeTuple (names_from (count last) total))) (ending is_told)
+    rest_is_code = (
+      if_true is_told calls nothing,
+      tuple (values_of s2.names (take (length s.places - kept) s.places)),
+      (is_told, calls, nothing, (tt, refl), call_is_code, (tt, refl), refl),
+      tuple_is_code s s2 ls (one_of s.names i (count last)) (count last) at many refl (one_many s.names i (count last)),
+      ap (λ m. let_in (if_true is_told calls nothing) (tuple (values_of m (take (length s.places - kept) s.places)))) (let z : 2 + s.names ≡ suc (suc s.names) = omega arith in z),
+    )
+
+    one_is_code : (fns : Functions) (j : ℕ) → function_in fns j ≡ Some f → Elaborates table false (behind (on_parameters f.parameters t0) (in_body (number_of_parameters f.parameters) t0)) f.body inner.exp → ElaboratesOne table t0 fns j b
+    one_is_code NoFunction j e h = absurd (let z : None ≡ Some f = e in cc)
+    one_is_code (AFunction how nodes ps body fns) zero e h = by (record { nodes = nodes; parameters = ps; body = body }) (is e)
+      where
+        function_or : Function → Option Function → Function
+        function_or d None = d
+        function_or d (Some f) = f
+
+        is : Some (record { nodes = nodes; parameters = ps; body = body }) ≡ Some f → f ≡ record { nodes = nodes; parameters = ps; body = body }
+        is q = ap (function_or f) (sym q)
+
+        by : (k : Function) → f ≡ k
+            → (y : core.Exp) × Elaborates table false (behind (on_parameters k.parameters t0) (in_body (number_of_parameters k.parameters) t0)) k.body y
+            × (b ≡ record { parameters = number_of_parameters k.parameters; nodes = k.nodes; expression = around_all (on_parameters k.parameters t0).checks fails y })
+        by k q =
+            subst (λ (k : Function). (y : core.Exp) × Elaborates table false (behind (on_parameters k.parameters t0) (in_body (number_of_parameters k.parameters) t0)) k.body y
+            × (b ≡ record { parameters = number_of_parameters k.parameters; nodes = k.nodes; expression = around_all (on_parameters k.parameters t0).checks fails y })) q (inner.exp, h, refl)
+    one_is_code (AFunction how nodes ps body fns) (suc j) e h = one_is_code fns j e h
+
+    hook_is_code : StandFunctions t0 alone → HasGroups table n (made_alone.groups ++ g ∷ []) → EndIsCode s n (Some i)
+    hook_is_code stands h =
+        let k = apart table made_alone.groups (g ∷ []) n h in
+        subst (λ (o : Option Hook). (told : core.Exp) × Like table upgraded s.names (start_end s n (count last) (take (length s.places - kept) s.places) o).exp told × Elaborates table false s (finish last upgraded (Some i) total) told → EndIsCode s n (Some i)) (hook_there last i f there)
+        (λ r. record { told = r.0; like = r.1; code = r.2 }) (
+          core.Functions number (ending is_told),
+          Grouped s.names number g (ending (at_place (suc s.names) (Local 0))) (ending is_told) (k.1.0) ending_like,
+          inr (
+            i,
+            number,
+            b,
+            ending is_told,
+            k.1.0,
+            one_is_code last i there (elaborates table false (behind (on_parameters f.parameters t0) (in_body (number_of_parameters f.parameters) t0)) n f.body (stands.0) ((apart table inner.groups [] n (k.0)).0)),
+            rest_is_code,
+            refl,
+          ),
+        )
+
+  end_is_code : (s : Scope) (ls : List ℕ) → s.places ≡ places_at ls → length ls ≡ total → (n : ℕ) (o : Option ℕ) → declarations.HookWithin (count last) o → CalledBehind last o → StandsAlone s (count last) (hook_of (hook_name o) last)
+      → HasGroups table n (the_end s n o).groups → EndIsCode s n o
+  end_is_code s ls at many n None within called stands h = record { told = (the_end s n None).exp; like = Same s.names _; code = tuple_is_code s s ls [] 0 at many refl refl }
+  end_is_code s ls at many n (Some i) within (f, there, plain) stands h =
+      hook_is_code s n i f there within ls at many (subst (λ (o : Option Hook). StandsAlone s (count last) o) (hook_there last i f there) stands)
+      (subst (λ (o : Option Hook). HasGroups table n (start_end s n (count last) (take (length s.places - kept) s.places) o).groups) (hook_there last i f there) h)
+
   methods_code : (s : Scope) (ls : List ℕ) → s.places ≡ places_at ls → length ls ≡ total → EndStands → (n : ℕ)
-      → HasGroups table n (elaborate_actor methods kept s n (source.Group last (declarations.parts methods last before labels cells))).groups → CodeEnds (elaborate_actor methods kept s n (source.Group last (declarations.parts methods last before labels cells)))
+      → HasGroups table n (elaborate_actor methods kept s n (source.Group last (declarations.parts methods last before after labels cells))).groups → CodeEnds (elaborate_actor methods kept s n (source.Group last (declarations.parts methods last before after labels cells)))
   methods_code s ls at many stand n h = record {
-    bodies = subst (λ ps. MethodBodies table ps (firsts methods last) (elaborate_functions (outside known) (n + 0) (firsts methods last)).bodies) same code;
-    save = subst (λ ps. SavedBy table ps cells last before v.body) same
-        (save_is_code table known cells last before (n + 0 + length m.groups) (subst (λ ps. HookStands ps last before) (sym same) stand.hook_stands) (subst (λ ps. AllByRecursion (Owned ps) cells) (sym same) stand.cells_owned) (both.1));
+    bodies = subst (λ ps. MethodBodies table ps (firsts methods last) (elaborate_functions (outside known) m0 (firsts methods last)).bodies) same code;
+    save = subst (λ ps. SavedBy table ps cells kept last before v.body) same
+        (save_is_code table known cells kept last before (m0 + length m.groups) (subst (λ ps. HookStands ps last before) (sym same) stand.hook_stands) (subst (λ ps. AllByRecursion (Owned ps) cells) (sym same) stand.cells_owned) (both.1));
   }
     where
       known : List Place
@@ -210,17 +369,20 @@ module _ (table : List (Group Body)) (methods kept : ℕ) (last : Functions) (be
       same : known ≡ places_known methods kept total last
       same = known_is ls s.places at many
 
+      m0 : ℕ
+      m0 = n + length (the_end s n after).groups
+
       m : BodiesElaborated
-      m = elaborate_functions (outside known) (n + 0) (firsts methods last)
+      m = elaborate_functions (outside known) m0 (firsts methods last)
 
       v : SaveElaborated
-      v = save_of known (n + 0 + length m.groups) (hook_of (declarations.hook_name before) last) (held_in known (declarations.names_of cells))
+      v = save_of kept known (m0 + length m.groups) (hook_of (declarations.hook_name before) last) (held_in known (declarations.names_of cells))
 
-      both : HasGroups table (n + 0) m.groups × HasGroups table (n + 0 + length m.groups) v.groups
-      both = apart table m.groups v.groups (n + 0) (subst (λ k. HasGroups table k (m.groups ++ v.groups)) (let z : n ≡ n + 0 = omega arith in z) h)
+      both : HasGroups table m0 m.groups × HasGroups table (m0 + length m.groups) v.groups
+      both = apart table m.groups v.groups m0 ((apart table (the_end s n after).groups (m.groups ++ v.groups) n h).1)
 
       code : MethodBodies table known (firsts methods last) m.bodies
-      code = methods_are_code table known (n + 0) (firsts methods last) (subst (λ ps. MethodsStand ps (firsts methods last)) (sym same) stand.methods_stand) (both.0)
+      code = methods_are_code table known m0 (firsts methods last) (subst (λ ps. MethodsStand ps (firsts methods last)) (sym same) stand.methods_stand) (both.0)
 
   -- ---- a group of functions, and what stands behind it
 
@@ -258,9 +420,18 @@ module _ (table : List (Group Body)) (methods kept : ℕ) (last : Functions) (be
       let i = groups_there s n m fns b c d h in
       subst (λ a. IsCode s (source.Group fns c) a) (group_is s n m fns b c d)
       (record {
-        start = (n + length (functions_at s n fns).groups, (functions_at s n fns).bodies, (actor_behind s n fns b).start, i.1.0, elaborates_functions table (under (count fns) s) n fns functions (i.0), r.start, refl);
+        told = core.Functions number r.told;
+        like = Grouped s.names number (group_at s n fns) (actor_behind s n fns b).start r.told (i.1.0)
+            (subst (λ k. Like table upgraded (k + s.names) (actor_behind s n fns b).start r.told) (sym (as_many_bodies table (under (count fns) s) fns (functions_at s n fns).bodies code)) r.like);
+        start = inl (number, (functions_at s n fns).bodies, r.told, i.1.0, code, r.start, refl);
         ends = record { bodies = r.ends.bodies; save = r.ends.save };
       })
+    where
+      number : ℕ
+      number = n + length (functions_at s n fns).groups
+
+      code : ElaboratesFunctions table (under (count fns) s) fns (functions_at s n fns).bodies
+      code = elaborates_functions table (under (count fns) s) n fns functions ((groups_there s n m fns b c d h).0)
 
   pub under_group : (s : Scope) (ls : List ℕ) (n : ℕ) → s.places ≡ places_at ls → places_from s.names n ++ s.places ≡ places_at (levels_down s.names n ++ ls)
   under_group s ls n at =
@@ -271,20 +442,24 @@ module _ (table : List (Group Body)) (methods kept : ℕ) (last : Functions) (be
   under_pattern s ls bound at = ap (λ ps. locals bound ++ ps) at ∙ (sym (assoc (locals bound) (locals ls) outer) ∙ ap (λ ps. ps ++ outer) (sym (locals_and bound ls)))
 
   -- the start and the methods of an actor whose groups stand in the table
-  pub is_code : (m : ℕ) (b c : Exp) → D m b c → (s : Scope) (ls : List ℕ) → length ls ≡ m → s.places ≡ places_at ls → DeclarationsStand s b → EndStands → (n : ℕ)
+  pub is_code : declarations.HookWithin (count last) after → (m : ℕ) (b c : Exp) → D m b c → (s : Scope) (ls : List ℕ) → length ls ≡ m → s.places ≡ places_at ls → DeclarationsStand s b → EndStands → (n : ℕ)
       → HasGroups table n (elaborate_actor methods kept s n b).groups → IsCode s c (elaborate_actor methods kept s n b)
-  is_code m b c (Opens k p e b' c' d) s ls many at stand methods_stand n h =
+  is_code within m b c (Opens k p e b' c' d) s ls many at stand methods_stand n h =
       let x : Elaborated = elaborate s n e in
       let k : Checked = on_nearest p s in
       let i = apart table x.groups (elaborate_actor methods kept (behind k s) (n + length x.groups) b').groups n h in
-      let r = is_code (bound_in p + m) b' c' d (behind k s) (k.bound ++ ls) (length_and k.bound ls ∙ ap₂ (λ x y. x + y) (bound_many p (Named s.names) (suc s.names)) many) (under_pattern s ls k.bound at) (stand.1) methods_stand (n + length x.groups) (i.1) in
-      record { start = (x.exp, (elaborate_actor methods kept (behind k s) (n + length x.groups) b').start, elaborates table false s n e (stand.0) (i.0), r.start, refl); ends = record { bodies = r.ends.bodies; save = r.ends.save } }
-  is_code m b c (Groups k fns b' c' few d) s ls many at stand methods_stand n h =
+      let r = is_code within (bound_in p + m) b' c' d (behind k s) (k.bound ++ ls) (length_and k.bound ls ∙ ap₂ (λ x y. x + y) (bound_many p (Named s.names) (suc s.names)) many) (under_pattern s ls k.bound at) (stand.1) methods_stand (n + length x.groups) (i.1) in
+      record {
+        told = let_in x.exp (around_all k.checks fails r.told);
+        like = First s.names _ _ x.exp x.exp core.NoExp (InBind s.names _ _ (like_around table upgraded (suc s.names) k.checks _ r.told (subst (λ m. Like table upgraded m (elaborate_actor methods kept (behind k s) (n + length x.groups) b').start r.told) (names_counted p (Named s.names) (suc s.names)) r.like))) (Same s.names x.exp);
+        start = (x.exp, r.told, elaborates table false s n e (stand.0) (i.0), r.start, refl);
+        ends = record { bodies = r.ends.bodies; save = r.ends.save };
+      }
+  is_code within m b c (Groups k fns b' c' few d) s ls many at stand methods_stand n h =
       let st = group_stands s (count fns + m) fns b' c' d stand in
       group_is_code s n (count fns + m) fns b' c' d (st.0) h
-      (is_code (count fns + m) b' c' d (under (count fns) s) (levels_down s.names (count fns) ++ ls) (length_and (levels_down s.names (count fns)) ls ∙ ap₂ (λ x y. x + y) (levels_many s.names (count fns)) many) (under_group s ls (count fns) at) (st.1) methods_stand
+      (is_code within (count fns + m) b' c' d (under (count fns) s) (levels_down s.names (count fns) ++ ls) (length_and (levels_down s.names (count fns)) ls ∙ ap₂ (λ x y. x + y) (levels_many s.names (count fns)) many) (under_group s ls (count fns) at) (st.1) methods_stand
       (suc (n + length (functions_at s n fns).groups)) ((groups_there s n (count fns + m) fns b' c' d h).1.1))
-  is_code m b c (Ends k is) s ls many at stand methods_stand n h = record {
-    start = subst (λ k. Elaborates table false s (made op.MakeTuple (names_from 0 k)) (start_end s 0 (count last) (take (length s.places - kept) s.places) None).exp) (sym is) (tuple_is_code s ls at (many ∙ is));
-    ends = methods_code s ls at (many ∙ is) methods_stand n h;
-  }
+  is_code within m b c (Ends k is) s ls many at stand methods_stand n h =
+      let e = end_is_code s ls at (many ∙ is) n after within methods_stand.called stand ((apart table (the_end s n after).groups _ n h).0) in
+      record { told = e.told; like = e.like; start = subst (λ k. Elaborates table false s (finish last upgraded after k) e.told) (sym is) e.code; ends = methods_code s ls at (many ∙ is) methods_stand n h }

@@ -85,7 +85,7 @@ module _ (s : Surroundings) where
     pub heavier : c.weight ≤ weight
     pub deeper : c.depth ≤ depth
 
-  pub onward : (c : Configuration) (f : Focus) (k : Stack) (g : Focus) (l : Stack) (r : Way c f k) → Way (conf r.weight r.depth c.prints c.calls c.store f k) g l → Way c g l
+  unfoldable pub onward : (c : Configuration) (f : Focus) (k : Stack) (g : Focus) (l : Stack) (r : Way c f k) → Way (conf r.weight r.depth c.prints c.calls c.store f k) g l → Way c g l
   onward c f k g l r q = record {
     steps_to = r.steps_to + q.steps_to;
     weight = q.weight;
@@ -96,11 +96,11 @@ module _ (s : Surroundings) where
   }
 
   -- one step
-  pub one_way : (c : Configuration) (w d : ℕ) (f : Focus) (k : Stack) → step s c ≡ Still (conf w d c.prints c.calls c.store f k) → c.weight ≤ w → c.depth ≤ d → Way c f k
+  unfoldable pub one_way : (c : Configuration) (w d : ℕ) (f : Focus) (k : Stack) → step s c ≡ Still (conf w d c.prints c.calls c.store f k) → c.weight ≤ w → c.depth ≤ d → Way c f k
   one_way c w d f k e h i = record { steps_to = 1; weight = w; depth = d; by = ap (then_steps s (steps s 0)) e; heavier = h; deeper = i }
 
   -- a step before
-  pub step_way : (c : Configuration) (w d : ℕ) (f : Focus) (k : Stack) (g : Focus) (l : Stack) → step s c ≡ Still (conf w d c.prints c.calls c.store f k) → c.weight ≤ w → c.depth ≤ d → Way (conf w d c.prints c.calls c.store f k) g l → Way c g l
+  unfoldable pub step_way : (c : Configuration) (w d : ℕ) (f : Focus) (k : Stack) (g : Focus) (l : Stack) → step s c ≡ Still (conf w d c.prints c.calls c.store f k) → c.weight ≤ w → c.depth ≤ d → Way (conf w d c.prints c.calls c.store f k) g l → Way c g l
   step_way c w d f k g l e h i q = record {
     steps_to = suc q.steps_to;
     weight = q.weight;
@@ -114,6 +114,11 @@ module _ (s : Surroundings) where
 
   abbrev pub Evaluates : Environment → Exp → Value → Type 0
   Evaluates env e v = (w d : ℕ) (prints : List Bytes) (calls : List Outgoing) (store : Store) (k : Stack) → Way (conf w d prints calls store (Eval e env) k) (Give v) k
+
+  pub name_there : (env : Environment) (x : ℕ) (v : Value) → at env x ≡ Some v → (w d : ℕ) (prints : List Bytes) (calls : List Outgoing) (store : Store) (k : Stack) → step s (conf w d prints calls store (Eval (Name x) env) k) ≡ Still (conf w d prints calls store (Give v) k)
+  name_there env x v e w d prints calls store k =
+      let c : Configuration = conf w d prints calls store (Eval (Name x) env) k in
+      ap (λ o. after s c (turn s c (reduces (head_at s.types) None store (Eval (Name x) env) k)) (found o k)) e
 
   pub name_evaluates : (env : Environment) (x : ℕ) (v : Value) → at env x ≡ Some v → Evaluates env (Name x) v
   name_evaluates env x v e w d prints calls store k =
@@ -172,6 +177,26 @@ module _ (s : Surroundings) where
       step_way c w d (Eval e1 env) (Operands (action.Operate o) [] es env ∷ k) (Ready (action.Operate o) (v ∷ vs)) k refl (omega arith) (omega arith)
       (operands_evaluate o env e1 es v vs [] (hs.0) (hs.1) w d prints calls store k) in
       onward c (Ready (action.Operate o) (v ∷ vs)) k (Give (value_of r)) k q (done_evaluates o (v ∷ vs) r e q.weight q.depth prints calls store k)
+
+  -- what is done pays for itself
+  operation_pays : (o : Operation) (env : Environment) (es : Exps) (vs : List Value) (r : Shape Code) (hs : EvaluateAll env es vs) (e : operate (head_at s.types) o (shapes_list vs) ≡ answer.Gives r) (w d : ℕ) (prints : List Bytes) (calls : List Outgoing) (store : Store) (k : Stack)
+      → w + (operation_cost o (shapes_list vs) (answer.Gives r)).weight ≤ (operation_evaluates o env es vs r hs e w d prints calls store k).weight
+  unfolding operation_evaluates done_evaluates step_way onward one_way
+  operation_pays o env NoExp [] r hs e w d prints calls store k =
+      let q : (operation_evaluates o env NoExp [] r hs e w d prints calls store k).weight ≡ w + (operation_cost o [] (answer.Gives r)).weight = refl in
+      omega (arith, q)
+  operation_pays o env NoExp (v ∷ vs) r hs e w d prints calls store k = absurd hs
+  operation_pays o env (AnExp e1 es) [] r hs e w d prints calls store k = absurd hs
+  operation_pays o env (AnExp e1 es) (v ∷ vs) r hs e w d prints calls store k =
+      let z : w ≤ (operands_evaluate o env e1 es v vs [] (hs.0) (hs.1) w d prints calls store k).weight = (operands_evaluate o env e1 es v vs [] (hs.0) (hs.1) w d prints calls store k).heavier in
+      let q : (operation_evaluates o env (AnExp e1 es) (v ∷ vs) r hs e w d prints calls store k).weight ≡ (operands_evaluate o env e1 es v vs [] (hs.0) (hs.1) w d prints calls store k).weight + (operation_cost o (shapes_list (v ∷ vs)) (answer.Gives r)).weight = refl in
+      omega (arith, z, q)
+
+  pub tuple_comes : (env : Environment) (es : Exps) (vs : List Value) → EvaluateAll env es vs → (w d : ℕ) (prints : List Bytes) (calls : List Outgoing) (store : Store) (k : Stack)
+      → (r : Way (conf w d prints calls store (Eval (made op.MakeTuple es) env) k) (Give (Made shape.Tuple (gathered vs))) k) × (w + (2 + length (shapes_list vs)) ≤ r.weight)
+  tuple_comes env es vs hs w d prints calls store k =
+      subst (λ x. (r : Way (conf w d prints calls store (Eval (made op.MakeTuple es) env) k) (Give (Made shape.Tuple x)) k) × (w + (2 + length (shapes_list vs)) ≤ r.weight)) (list_back vs)
+      (operation_evaluates op.MakeTuple env es vs (shape.Made shape.Tuple (shapes (shapes_list vs))) hs refl w d prints calls store k, operation_pays op.MakeTuple env es vs (shape.Made shape.Tuple (shapes (shapes_list vs))) hs refl w d prints calls store k)
 
   pub tuple_evaluates : (env : Environment) (es : Exps) (vs : List Value) → EvaluateAll env es vs → Evaluates env (made op.MakeTuple es) (Made shape.Tuple (gathered vs))
   tuple_evaluates env es vs hs = subst (λ x. Evaluates env (made op.MakeTuple es) (Made shape.Tuple x)) (list_back vs) (operation_evaluates op.MakeTuple env es vs (shape.Made shape.Tuple (shapes (shapes_list vs))) hs refl)

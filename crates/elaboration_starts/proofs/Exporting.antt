@@ -1,32 +1,43 @@
 -- The value of an actor's declarations: the functions of its methods, its hooks, and the cells of its stable variables.
-use Rattle.std.proofs.Common.{◌≡◌, ℕ, zero, suc, ◌+◌, ◌*◌, ◌≤◌, List, [], ◌∷◌, length, Option, Some, None, slice_get, refl, sym, ap, ◌∙◌, subst, arith}
-use Rattle.std.specs.Prelude.{max}
+use Rattle.std.proofs.Common.{◌≡◌, Bool, true, false, ℕ, zero, suc, ◌+◌, ◌*◌, ◌≤◌, List, [], ◌∷◌, length, Option, Some, None, slice_get, refl, sym, ap, ◌∙◌, subst, arith}
+use Rattle.std.specs.Prelude.{max, cond}
 use Rattle.std.specs.List.{AllByRecursion}
 use Rattle.std.proofs.lemmas.Bool.{eq-eqb}
 use Rattle.mo_values.specs.declared.operation.Operation.TheVariants as op
+use Rattle.mo_values.specs.Costs.{weighing}
 use Rattle.mo_values.specs.Messages.{only_if}
 use Rattle.mo_values.specs.Shapes as shape
 use Rattle.mo_values.specs.Shapes.{Bytes, Tuple, Object, Present, shapes}
 use Rattle.mo_values.specs.Views as answer
-use Rattle.typed_tree.specs.Language.{Exp, Functions, NoFunction, AFunction, Val, Name, Group, NoExp, AnExp, NoCase, ACase, null}
-use Rattle.typed_tree.specs.Patterns.{Bind}
+use Rattle.typed_tree.specs.declared.action.Action.TheVariants as action
+use Rattle.typed_tree.specs.Language.{Exp, Functions, NoFunction, AFunction, Name, Do, Group, NoExp, AnExp, NoCase, ACase, null, then}
+use Rattle.typed_tree.specs.Patterns.{Wildcard, Bind, NoPat, matches_all}
 use Rattle.typed_tree.specs.Substitution.{count, group_nodes}
 use Rattle.mo_meaning.specs.Configurations.{Surroundings}
 use Rattle.mo_meaning.specs.Kernel.{Outgoing}
 use Rattle.mo_machine.specs.Values.{Value, Made, Closure, NoValue, AValue, gathered, shape_of, shapes_list}
 use Rattle.mo_machine.specs.Values as values
-use Rattle.mo_machine.specs.Acts.{Store}
+use Rattle.mo_machine.specs.Acts.{Store, Goes, Stuck}
+use Rattle.mo_machine.specs.Calls.{are_as_many, entered, entering, call_function}
 use Rattle.mo_machine.specs.Environments.{Environment, at, extended, with_group}
 use Rattle.mo_machine.specs.Environments as environment
 use Rattle.mo_machine.specs.Configurations.{Configuration, Returns, Still, Ended, live_on, live_state}
 use Rattle.mo_machine.specs.Exports.{function_at, function_or, part_at, values_in}
-use Rattle.mo_machine.specs.Frames.{Switching, Returning, Joining, Stack, Focus, Eval, Give}
-use Rattle.mo_machine.specs.Turns.{step, steps, then_steps}
+use Rattle.mo_machine.specs.Frames.{Operands, Switching, Returning, Joining, Stack, Focus, Eval, Ready, Give}
+use Rattle.mo_machine.specs.Jumps.{on_stack}
+use Rattle.mo_machine.specs.Turns.{turn, step, steps, then_steps}
+use Rattle.elaboration_runs.specs.Entering.{Function, function_in}
 use Rattle.elaboration_actors.specs.Saving.{CellsAt}
 use Rattle.elaboration_starts.specs.Declarations as declarations
 use Rattle.elaboration_starts.specs.Declarations.{names_from, names_of, hook_name, made}
 use Rattle.elaboration_starts.proofs.Alongside.{Bases, Alone, Hooked, Joined, look_cases, look_for_hook, conf, Under, under_group}
-use Rattle.elaboration_starts.proofs.Evaluating.{value_back, list_back, listed_gathered, at_front, is_there, Way, steps_and, Evaluates, EvaluateAll, name_evaluates, literal_evaluates, operation_evaluates, tuple_evaluates}
+use Rattle.elaboration_starts.proofs.Evaluating.{value_back, list_back, listed_gathered, at_front, is_there, Way, onward, one_way, step_way, steps_and, Evaluates, EvaluateAll, name_evaluates, literal_evaluates, operation_evaluates, tuple_evaluates, tuple_comes}
+
+-- no hook is called
+abbrev pub CallsNone : (upgraded : Bool) → Option ℕ → Type 0
+CallsNone t None = Unit {0}
+CallsNone true (Some h) = ⊥
+CallsNone false (Some h) = Unit {0}
 
 -- ---- the parts
 
@@ -43,9 +54,25 @@ abbrev pub hook_value : Functions → Environment → Option ℕ → Value
 hook_value group env None = values.null
 hook_value group env (Some h) = Made Present (AValue (Closure group h env) NoValue)
 
-module _ (last : Functions) (env : Environment) (methods : ℕ) (before : Option ℕ) (labels : List Bytes) (held : List Value) where
+-- a hook has no parameters
+pub hook_called : (store : Store) (group : Functions) (env : Environment) (fns : Functions) (h : ℕ) (f : Function) → function_in fns h ≡ Some f → f.parameters ≡ NoPat
+    → call_function store group env fns h [] ≡ Goes (weighing (1 + f.nodes + 0)) store (Eval f.body (with_group group env)) (Returning f.nodes ∷ [])
+hook_called store group env NoFunction h f there e = absurd (let z : None ≡ Some f = there in cc)
+hook_called store group env (AFunction how nodes ps body fns) zero f there e =
+    subst (λ (f : Function). f.parameters ≡ NoPat → cond (are_as_many ps []) (entered store group env (entering nodes ps []) nodes body (matches_all ps [])) Stuck ≡ Goes (weighing (1 + f.nodes + 0)) store (Eval f.body (with_group group env)) (Returning f.nodes ∷ [])) (is there)
+    (λ q. subst (λ ps. cond (are_as_many ps []) (entered store group env (entering nodes ps []) nodes body (matches_all ps [])) Stuck ≡ Goes (weighing (1 + nodes + 0)) store (Eval body (with_group group env)) (Returning nodes ∷ [])) (sym q) refl) e
+  where
+    function_or : Function → Option Function → Function
+    function_or d None = d
+    function_or d (Some f) = f
+
+    is : Some (record { nodes = nodes; parameters = ps; body = body }) ≡ Some f → record { nodes = nodes; parameters = ps; body = body } ≡ f
+    is q = ap (function_or f) q
+hook_called store group env (AFunction how nodes ps body fns) (suc h) f there e = hook_called store group env fns h f there e
+
+module _ (last : Functions) (env : Environment) (methods : ℕ) (before after : Option ℕ) (labels : List Bytes) (held : List Value) where
   abbrev pub exported : Value
-  exported = Made Tuple (AValue (Made Tuple (gathered (method_values last env 0 methods))) (AValue (hook_value last env before) (AValue values.null (AValue (Made (Object labels) (gathered held)) NoValue))))
+  exported = Made Tuple (AValue (Made Tuple (gathered (method_values last env 0 methods))) (AValue (hook_value last env before) (AValue (hook_value last env after) (AValue (Made (Object labels) (gathered held)) NoValue))))
 
   pub cells_there : values_in (part_at 3 exported) ≡ held
   cells_there = listed_gathered held
@@ -80,7 +107,7 @@ closures_at group env (AFunction how nodes ps body fns) i others zero h = ap (λ
 closures_at group env (AFunction how nodes ps body fns) i others (suc j) h =
     closures_at group env fns (suc i) others j (omega (arith, h)) ∙ ap (λ k. Some (Closure group k env)) (let z : suc i + j ≡ i + suc j = omega arith in z)
 
-group_at : (fns : Functions) (env : Environment) (j : ℕ) → suc j ≤ count fns → at (with_group fns env) j ≡ Some (Closure fns j env)
+pub group_at : (fns : Functions) (env : Environment) (j : ℕ) → suc j ≤ count fns → at (with_group fns env) j ≡ Some (Closure fns j env)
 group_at fns env j h = closures_at fns env fns 0 env j h ∙ ap (λ k. Some (Closure fns k env)) (let z : 0 + j ≡ j = omega arith in z)
 
 module _ (s : Surroundings) where
@@ -191,40 +218,153 @@ module _ (s : Surroundings) where
           d2 : ℕ
           d2 = max (max found.depth (live_state (Give values.null) looking + 16 * 0)) (live_state (Eval (Name 0) env1) (Joining ∷ Joining ∷ Returning n ∷ []))
 
-      pub based : (k l : Stack) → Bases k l → (w d : ℕ) → Exports (C w d (Give e) k) e
-      based k l (Alone n) w d = returned n e w d
-      based k l (Hooked n env) w d = unhooked n env w d
-      based k l (Joined k' l' b) w d = joined k' e e w d (based k' l' b)
+    -- a hook behind an upgrade is called, where this is one
+    module _ (x y z : Value) (group : Functions) (around : Environment) (h : ℕ) (f : Function) (there : function_in group h ≡ Some f) (plain : f.parameters ≡ NoPat) where
+      abbrev pub closure : Value
+      closure = Closure group h around
+
+      abbrev pub with_hook : Value
+      with_hook = Made Tuple (AValue x (AValue y (AValue (Made Present (AValue closure NoValue)) (AValue z NoValue))))
+
+      -- it stands above what gives the value of the declarations
+      abbrev pub above : ℕ → Environment → Stack
+      above n env = Switching (ACase Wildcard (Name 1) NoCase) (AValue closure (AValue with_hook env)) ∷ Joining ∷ Joining ∷ Returning n ∷ []
+
+      pub record Called (w d : ℕ) (k l : Stack) : Type 0 where
+        pub n : ℕ
+        pub env : Environment
+        pub way : Way s (C w d (Give with_hook) k) (Eval f.body (with_group group around)) (Returning f.nodes ∷ above n env)
+        pub paid : w + (1 + f.nodes) ≤ way.weight
+        pub live : live_on l ≡ 16 + n + 0
+        pub deep : live_state (Eval f.body (with_group group around)) (Returning f.nodes ∷ above n env) ≤ way.depth
+
+      module _ (n : ℕ) (env : Environment) (w d : ℕ) where
+        abbrev start : Stack
+        start = Switching (ACase Bind look_for_hook NoCase) env ∷ Returning n ∷ []
+
+        abbrev env1 : Environment
+        env1 = AValue with_hook env
+
+        abbrev env2 : Environment
+        env2 = AValue closure env1
+
+        abbrev hook : Value
+        hook = Made Present (AValue closure NoValue)
+
+        abbrev project : Exp
+        project = made (op.Project 2) (AnExp (Name 0) NoExp)
+
+        abbrev call : Exp
+        call = Do action.Call (AnExp (Name 0) NoExp)
+
+        abbrev both : Exp
+        both = then call (Name 1)
+
+        abbrev ready : Focus
+        ready = Ready action.Call (closure ∷ [])
+
+        abbrev body : Focus
+        body = Eval f.body (with_group group around)
+
+        abbrev bottom_of : Stack
+        bottom_of = Returning f.nodes ∷ above n env
+
+        abbrev d1 : ℕ
+        d1 = max (max d (live_state (Give with_hook) start + 16 * 0)) (live_state (Eval look_for_hook env1) (Joining ∷ Returning n ∷ []))
+
+        abbrev looking : Stack
+        looking = Switching look_cases env1 ∷ Joining ∷ Returning n ∷ []
+
+        found : Way s (C (w + 2) d1 (Eval project env1) looking) (Give hook) looking
+        found = operation_evaluates s (op.Project 2) env1 (AnExp (Name 0) NoExp) (with_hook ∷ []) (shape_of hook) (name_evaluates s env1 0 with_hook refl, tt) refl (w + 2) d1 prints calls store looking
+
+        abbrev d2 : ℕ
+        d2 = max (max found.depth (live_state (Give hook) looking + 16 * 0)) (live_state (Eval both env2) (Joining ∷ Joining ∷ Returning n ∷ []))
+
+        abbrev d3 : ℕ
+        d3 = max (max d2 (live_state ready (above n env) + 16 * 0)) (live_state body bottom_of)
+
+        the_way : Way s (C w d (Give with_hook) start) body bottom_of
+        the_way =
+            step_way s (C w d (Give with_hook) start) (w + 2) d1 (Eval look_for_hook env1) (Joining ∷ Returning n ∷ []) body bottom_of (ap (λ v. Still (C (w + 2) d1 (Eval look_for_hook (AValue v env)) (Joining ∷ Returning n ∷ []))) (value_back with_hook)) (omega arith) (omega arith)
+            (step_way s (C (w + 2) d1 (Eval look_for_hook env1) (Joining ∷ Returning n ∷ [])) (w + 2) d1 (Eval project env1) looking body bottom_of refl (omega arith) (omega arith)
+            (onward s (C (w + 2) d1 (Eval project env1) looking) (Give hook) looking body bottom_of found
+            (step_way s (C found.weight found.depth (Give hook) looking) (found.weight + 4) d2 (Eval both env2) (Joining ∷ Joining ∷ Returning n ∷ []) body bottom_of refl (omega arith) (omega arith)
+            (step_way s (C (found.weight + 4) d2 (Eval both env2) (Joining ∷ Joining ∷ Returning n ∷ [])) (found.weight + 4) d2 (Eval call env2) (above n env) body bottom_of refl (omega arith) (omega arith)
+            (step_way s (C (found.weight + 4) d2 (Eval call env2) (above n env)) (found.weight + 4) d2 (Eval (Name 0) env2) (Operands action.Call [] NoExp env2 ∷ above n env) body bottom_of refl (omega arith) (omega arith)
+            (step_way s (C (found.weight + 4) d2 (Eval (Name 0) env2) (Operands action.Call [] NoExp env2 ∷ above n env)) (found.weight + 4) d2 (Give closure) (Operands action.Call [] NoExp env2 ∷ above n env) body bottom_of refl (omega arith) (omega arith)
+            (step_way s (C (found.weight + 4) d2 (Give closure) (Operands action.Call [] NoExp env2 ∷ above n env)) (found.weight + 4) d2 ready (above n env) body bottom_of refl (omega arith) (omega arith)
+            (one_way s (C (found.weight + 4) d2 ready (above n env)) (found.weight + 4 + (1 + f.nodes + 0)) d3 body bottom_of (ap (λ a. turn s (C (found.weight + 4) d2 ready (above n env)) (on_stack store a (above n env))) (hook_called store group around group h f there plain)) (omega arith) (omega arith)))))))))
+
+        calls_it : Called w d start (Returning n ∷ [])
+        unfolding the_way step_way onward one_way
+        calls_it = record {
+          n = n;
+          env = env;
+          way = the_way;
+          paid = let z : w + 2 ≤ found.weight = found.heavier in let y : the_way.weight ≡ found.weight + 4 + (1 + f.nodes + 0) = refl in omega (arith, y, z);
+          live = refl;
+          deep = let y : the_way.depth ≡ d3 = refl in omega (arith, y);
+        }
+
+      pub hook_called_in : {t : Bool} → (k l : Stack) → Bases t k l → t ≡ true → (w d : ℕ) → Called w d k l
+      unfolding step_way
+      hook_called_in k l (Alone n) e w d = absurd (let z : false ≡ true = e in cc)
+      hook_called_in k l (Hooked n env) e w d = calls_it n env w d
+      hook_called_in k l (Joined k' l' b) e w d = by (hook_called_in k' l' b e w d)
+        where
+          by : Called w d k' l' → Called w d (Joining ∷ k') (Joining ∷ l')
+          by r = record {
+            n = r.n;
+            env = r.env;
+            way = step_way s (C w d (Give with_hook) (Joining ∷ k')) w d (Give with_hook) k' (Eval f.body (with_group group around)) (Returning f.nodes ∷ above r.n r.env) refl (omega arith) (omega arith) r.way;
+            paid = r.paid;
+            live = let z : live_on l' ≡ 16 + r.n + 0 = r.live in omega (arith, z);
+            deep = r.deep;
+          }
+
+      -- behind it
+      pub hook_left : (n : ℕ) (env : Environment) (v : Value) (w d : ℕ) → Exports (C w d (Give v) (above n env)) with_hook
+      hook_left n env v w d =
+          step_exports (C w d (Give v) (above n env)) (w + 2) d1 (Eval (Name 1) env2) (Joining ∷ Joining ∷ Joining ∷ Returning n ∷ []) with_hook refl (omega arith) (omega arith)
+          (step_exports (C (w + 2) d1 (Eval (Name 1) env2) (Joining ∷ Joining ∷ Joining ∷ Returning n ∷ [])) (w + 2) d1 (Give with_hook) (Joining ∷ Joining ∷ Joining ∷ Returning n ∷ []) with_hook refl (omega arith) (omega arith)
+          (joined (Joining ∷ Joining ∷ Returning n ∷ []) with_hook with_hook (w + 2) d1 (λ w d. joined (Joining ∷ Returning n ∷ []) with_hook with_hook w d (λ w d. joined (Returning n ∷ []) with_hook with_hook w d (λ w d. returned n with_hook w d)))))
+        where
+          env2 : Environment
+          env2 = AValue closure (AValue with_hook env)
+
+          d1 : ℕ
+          d1 = max (max d (live_state (Give v) (above n env) + 16 * 0)) (live_state (Eval (Name 1) env2) (Joining ∷ Joining ∷ Joining ∷ Returning n ∷ []))
+
+    pub based : {t : Bool} → (x y z : Value) (last : Functions) (env : Environment) (o : Option ℕ) (k l : Stack) → Bases t k l → CallsNone t o → (w d : ℕ)
+        → Exports (C w d (Give (Made Tuple (AValue x (AValue y (AValue (hook_value last env o) (AValue z NoValue)))))) k) (Made Tuple (AValue x (AValue y (AValue (hook_value last env o) (AValue z NoValue)))))
+    based x y z last env o k l (Alone n) h w d = returned n _ w d
+    based x y z last env None k l (Hooked n e) h w d = unhooked x y z n e w d
+    based x y z last env (Some i) k l (Hooked n e) h w d = absurd h
+    based x y z last env o k l (Joined k' l' b) h w d = joined k' _ _ w d (based x y z last env o k' l' b h)
 
   -- ---- all that stands behind the declarations
 
-  module _ (outer : Environment) (methods : ℕ) (last : Functions) (before : Option ℕ) (labels : List Bytes) (cells : List ℕ) (total : ℕ) (stand : declarations.PartsStand methods last before labels cells total) where
+  module _ (outer : Environment) (methods : ℕ) (last : Functions) (before after : Option ℕ) (labels : List Bytes) (cells : List ℕ) (total : ℕ) (stand : declarations.PartsStand methods last before after labels cells total) where
     abbrev the_parts : Exp
-    the_parts = declarations.parts methods last before labels cells
+    the_parts = declarations.parts methods last before after labels cells
 
-    -- the value that the declarations come to, in whose names its cells are
-    pub record Whole (env : Environment) (w d : ℕ) (prints : List Bytes) (calls : List Outgoing) (store : Store) (k : Stack) : Type 0 where
+    -- the parts have come to their value, in whose names its cells are
+    pub record Parts (env : Environment) (w d : ℕ) (prints : List Bytes) (calls : List Outgoing) (store : Store) (k : Stack) : Type 0 where
       pub held : List Value
       pub cells_are : CellsAt (with_group last env) cells held
-      pub steps_to : ℕ
-      pub weight : ℕ
-      pub depth : ℕ
-      pub by : steps s steps_to (conf w d prints calls store (Eval (Group last the_parts) env) k) ≡ Ended (conf weight depth prints calls store (Give (exported last env methods before labels held)) []) (Returns (exported last env methods before labels held))
-      pub heavier : w + 2 ≤ weight
-      pub deeper : d ≤ depth
-      pub live : live_on k ≤ depth
+      pub way : Way s (conf w d prints calls store (Eval (Group last the_parts) env) k) (Give (exported last env methods before after labels held)) k
+      pub paid : w + group_nodes last + 7 ≤ way.weight
+      pub live : live_on k ≤ way.depth
 
-    pub ends_whole : (env : Environment) (u : Under outer total env) (k l : Stack) → Bases k l → (w d : ℕ) (prints : List Bytes) (calls : List Outgoing) (store : Store) → Whole env w d prints calls store k
-    ends_whole env u k l base w d prints calls store = record {
+    pub parts_come : (env : Environment) (u : Under outer total env) (k : Stack) (w d : ℕ) (prints : List Bytes) (calls : List Outgoing) (store : Store) → Parts env w d prints calls store k
+    unfolding step_way
+    parts_come env u k w d prints calls store = record {
       held = found.0;
       cells_are = there;
-      steps_to = suc q.steps_to;
-      weight = q.weight;
-      depth = q.depth;
-      by = q.by;
-      heavier = let z : suc (w + (1 + group_nodes last)) ≤ q.weight = q.heavier in omega (arith, z);
-      deeper = let z : d1 ≤ q.depth = q.deeper in omega (arith, z);
-      live = let z : d1 ≤ q.depth = q.deeper in omega (arith, z);
+      way = step_way s (conf w d prints calls store (Eval (Group last the_parts) env) k) (w + (1 + group_nodes last)) d1 (Eval the_parts inner) k (Give (exported last env methods before after labels (found.0))) k refl (omega arith) (omega arith) (come.0);
+      paid = let z : w + (1 + group_nodes last) + 6 ≤ (come.0).weight = come.1 in omega (arith, z);
+      live = let z : d1 ≤ (come.0).depth = (come.0).deeper in omega (arith, z);
     }
       where
         inner : Environment
@@ -248,20 +388,44 @@ module _ (s : Surroundings) where
         cells_value : Value
         cells_value = Made (Object labels) (gathered (found.0))
 
-        whole : Evaluates s inner the_parts (exported last env methods before labels (found.0))
-        whole =
-            tuple_evaluates s inner (AnExp (made op.MakeTuple (names_from 0 methods)) (AnExp (hook_name before) (AnExp (Val null) (AnExp (made (op.MakeObject labels) (names_of cells)) NoExp))))
-            (methods_value ∷ hook_value last env before ∷ values.null ∷ cells_value ∷ []) (
+        come : (r : Way s (conf (w + (1 + group_nodes last)) d1 prints calls store (Eval the_parts inner) k) (Give (exported last env methods before after labels (found.0))) k) × (w + (1 + group_nodes last) + 6 ≤ r.weight)
+        come =
+            tuple_comes s inner (AnExp (made op.MakeTuple (names_from 0 methods)) (AnExp (hook_name before) (AnExp (hook_name after) (AnExp (made (op.MakeObject labels) (names_of cells)) NoExp))))
+            (methods_value ∷ hook_value last env before ∷ hook_value last env after ∷ cells_value ∷ []) (
               tuple_evaluates s inner (names_from 0 methods) (method_values last env 0 methods) (methods_evaluate last env 0 methods (let z : methods ≤ count last = stand.enough in omega (arith, z))),
-              (hook_evaluates last env before stand.hook, (literal_evaluates s inner null, (object_evaluates inner labels cells (found.0) there stand.as_many, tt))),
-            )
+              (hook_evaluates last env before stand.hook, (hook_evaluates last env after stand.upgraded, (object_evaluates inner labels cells (found.0) there stand.as_many, tt))),
+            ) (w + (1 + group_nodes last)) d1 prints calls store k
 
-        c1 : Configuration
-        c1 = conf (w + (1 + group_nodes last)) d1 prints calls store (Eval the_parts inner) k
+    -- the value that the declarations come to, where no hook is called
+    pub record Whole (env : Environment) (w d : ℕ) (prints : List Bytes) (calls : List Outgoing) (store : Store) (k : Stack) : Type 0 where
+      pub held : List Value
+      pub cells_are : CellsAt (with_group last env) cells held
+      pub steps_to : ℕ
+      pub weight : ℕ
+      pub depth : ℕ
+      pub by : steps s steps_to (conf w d prints calls store (Eval (Group last the_parts) env) k) ≡ Ended (conf weight depth prints calls store (Give (exported last env methods before after labels held)) []) (Returns (exported last env methods before after labels held))
+      pub heavier : w + group_nodes last + 8 ≤ weight
+      pub deeper : d ≤ depth
+      pub live : live_on k ≤ depth
 
-        way : Way s c1 (Give (exported last env methods before labels (found.0))) k
-        way = whole (w + (1 + group_nodes last)) d1 prints calls store k
+    pub ends_whole : {t : Bool} → CallsNone t after → (env : Environment) (u : Under outer total env) (k l : Stack) → Bases t k l → (w d : ℕ) (prints : List Bytes) (calls : List Outgoing) (store : Store) → Whole env w d prints calls store k
+    ends_whole calls_none env u k l base w d prints calls store = by (parts_come env u k w d prints calls store)
+      where
+        by : Parts env w d prints calls store k → Whole env w d prints calls store k
+        by p = ended (based prints calls store _ _ _ last env after k l base calls_none p.way.weight p.way.depth)
+          where
+            e : Value
+            e = exported last env methods before after labels p.held
 
-        q : Exports c1 (exported last env methods before labels (found.0))
-        q = before_exports c1 (Give (exported last env methods before labels (found.0))) k (exported last env methods before labels (found.0)) way
-            (based prints calls store methods_value (hook_value last env before) cells_value k l base way.weight way.depth)
+            ended : Exports (conf p.way.weight p.way.depth prints calls store (Give e) k) e → Whole env w d prints calls store k
+            ended q = record {
+              held = p.held;
+              cells_are = p.cells_are;
+              steps_to = p.way.steps_to + q.steps_to;
+              weight = q.weight;
+              depth = q.depth;
+              by = steps_and s p.way.steps_to q.steps_to (conf w d prints calls store (Eval (Group last the_parts) env) k) (conf p.way.weight p.way.depth prints calls store (Give e) k) p.way.by ∙ q.by;
+              heavier = let z : suc p.way.weight ≤ q.weight = q.heavier in let y : w + group_nodes last + 7 ≤ p.way.weight = p.paid in omega (arith, y, z);
+              deeper = let z : p.way.depth ≤ q.depth = q.deeper in let y : d ≤ p.way.depth = p.way.deeper in omega (arith, y, z);
+              live = let z : p.way.depth ≤ q.depth = q.deeper in let y : live_on k ≤ p.way.depth = p.live in omega (arith, y, z);
+            }

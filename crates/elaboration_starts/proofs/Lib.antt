@@ -1,7 +1,9 @@
 pub mod SavedCode
+pub mod Told
 pub mod DeclaredCode
 pub mod Twins
 pub mod Counts
+pub mod Closing
 pub mod Alongside
 pub mod Evaluating
 pub mod Exporting
@@ -9,6 +11,13 @@ pub mod Calm
 pub mod Tuples
 pub mod Serving
 pub mod Names
+pub mod Starting
+pub mod Endings
+pub mod Showing
+pub mod Leading
+pub mod Tails
+pub mod Undeclared
+pub mod Called
 pub mod Starts
 pub mod Following
 pub mod Reading

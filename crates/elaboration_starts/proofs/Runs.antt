@@ -16,7 +16,7 @@ use Rattle.elaboration_starts.specs.Runs.{IsElaborated, ElaboratedRunsKeep, Meas
 use Rattle.elaboration_starts.proofs.Following.{installs_follow, upgrades_follow}
 use Rattle.elaboration_starts.proofs.Keeping.{saves_follow}
 
-module _ (times : ℕ) (enough : 4 ≤ times) (coding : Coding) (own : List ℕ) (allowed : Event → Bool) (fits : Kept → Bool) where
+module _ (times : ℕ) (enough : 3 ≤ times) (coding : Coding) (own : List ℕ) (allowed : Event → Bool) (fits : Kept → Bool) where
   abbrev Starting : Version → Type 0
   Starting v =
       StartsAndSaves times coding v.typed.types v.typed.program v.typed.first own (λ e. allowed e ≡ true) (λ s. v.safe s ≡ true) (λ k. fits k ≡ true) (elaborated v.typed.program) (messages_of coding v.typed.types v.typed.program) v.memory

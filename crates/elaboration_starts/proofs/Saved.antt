@@ -20,7 +20,7 @@ use Rattle.mo_meaning.specs.Messages.{joined_values, plain_values}
 use Rattle.mo_meaning.specs.Saving.{and_variable, variables_of, and_held, held_in}
 use Rattle.mo_machine.specs.Values.{Value, Code, Made, Closure, BuiltIn, shapes_list}
 use Rattle.mo_machine.specs.Acts.{Store}
-use Rattle.mo_machine.specs.Cells.{cell_of, held}
+use Rattle.mo_machine.specs.Cells.{cell_of}
 use Rattle.mo_machine.specs.Exports.{value_or_unit, values_in, part_at}
 use Rattle.mo_machine.specs.Unload.{unload, unload_list}
 use Rattle.mo_machine.proofs.Cells.{cell_same, held_same}

@@ -70,11 +70,11 @@ hook_there (AFunction how nodes ps body fns) (suc h) f e = hook_there fns h f e
 
 -- ---- code
 
-module _ (table : List (Group Body)) (known : List Place) (cells : List ℕ) where
+module _ (table : List (Group Body)) (known : List Place) (cells : List ℕ) (stable : ℕ) where
   abbrev pub SavedBy : Functions → Option ℕ → Body → Type 0
-  SavedBy last None b = (code : core.Exp) × (b ≡ record { parameters = 0; nodes = 0; expression = code }) × Elaborates table false (outside known) (reading cells) code
+  SavedBy last None b = (code : core.Exp) × (b ≡ record { parameters = 0; nodes = stable; expression = code }) × Elaborates table false (outside known) (reading cells) code
   SavedBy last (Some h) b =
-      (f : Function) × (code : core.Exp) × (function_in last h ≡ Some f) × (f.parameters ≡ NoPat) × (1 ≤ f.nodes) × (b ≡ record { parameters = 0; nodes = f.nodes; expression = code })
+      (f : Function) × (code : core.Exp) × (function_in last h ≡ Some f) × (f.parameters ≡ NoPat) × (1 ≤ f.nodes) × (b ≡ record { parameters = 0; nodes = stable + f.nodes; expression = code })
       × Elaborates table false (outside known) (hooked f.body cells) code
 
   reads_are_code : (s : Scope) → s.places ≡ known → (xs : List ℕ) → AllByRecursion (Owned known) xs → ElaboratesAll table false s (reads_of xs) (held_in known (names_of xs))
@@ -104,15 +104,15 @@ module _ (table : List (Group Body)) (known : List Place) (cells : List ℕ) whe
   reading_is_code : (s : Scope) → s.places ≡ known → AllByRecursion (Owned known) cells → Elaborates table false s (reading cells) (tuple held)
   reading_is_code s same h = (held, tt, reads_are_code s same cells h, refl)
 
-  pub save_is_code : (last : Functions) (before : Option ℕ) (n : ℕ) → HookStands known last before → AllByRecursion (Owned known) cells → HasGroups table n (save_of known n (hook_of (hook_name before) last) held).groups
-      → SavedBy last before (save_of known n (hook_of (hook_name before) last) held).body
+  pub save_is_code : (last : Functions) (before : Option ℕ) (n : ℕ) → HookStands known last before → AllByRecursion (Owned known) cells → HasGroups table n (save_of stable known n (hook_of (hook_name before) last) held).groups
+      → SavedBy last before (save_of stable known n (hook_of (hook_name before) last) held).body
   save_is_code last None n stands h = λ groups. (tuple held, refl, reading_is_code (outside known) refl h)
   save_is_code last (Some i) n (f, there, plain, any, stands) h =
-      subst (λ o. HasGroups table n (save_of known n o held).groups → SavedBy last (Some i) (save_of known n o held).body) (sym (hook_there last i f there))
-      (subst (λ ps. HasGroups table n (save_of known n (Some (record { nodes = f.nodes; parameters = ps; body = f.body })) held).groups → SavedBy last (Some i) (save_of known n (Some (record { nodes = f.nodes; parameters = ps; body = f.body })) held).body) (sym plain)
+      subst (λ o. HasGroups table n (save_of stable known n o held).groups → SavedBy last (Some i) (save_of stable known n o held).body) (sym (hook_there last i f there))
+      (subst (λ ps. HasGroups table n (save_of stable known n (Some (record { nodes = f.nodes; parameters = ps; body = f.body })) held).groups → SavedBy last (Some i) (save_of stable known n (Some (record { nodes = f.nodes; parameters = ps; body = f.body })) held).body) (sym plain)
       (λ groups. (
         f,
-        (save_of known n (Some (record { nodes = f.nodes; parameters = NoPat; body = f.body })) held).body.expression,
+        (save_of stable known n (Some (record { nodes = f.nodes; parameters = NoPat; body = f.body })) held).body.expression,
         there,
         plain,
         any,

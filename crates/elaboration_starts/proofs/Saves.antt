@@ -1,5 +1,5 @@
 -- A save of the actor of an elaborated program shows no more than that of the typed program, and keeps the same.
-use Rattle.std.proofs.Common.{◌≡◌, ℕ, suc, ◌+◌, ◌*◌, ◌≤◌, List, [], ◌∷◌, ◌++◌, length, Option, Some, None, refl, sym, ap, ◌∙◌, subst, arith}
+use Rattle.std.proofs.Common.{◌≡◌, false, ℕ, suc, ◌+◌, ◌*◌, ◌≤◌, List, [], ◌∷◌, ◌++◌, length, Option, Some, None, refl, sym, ap, ◌∙◌, subst, arith}
 use Rattle.std.specs.Prelude.{max}
 use Rattle.std.proofs.Math.Nat.{mul-le-mul_right}
 use Rattle.mo_types.specs.declared.node.TypeId.{TypeId}
@@ -9,7 +9,7 @@ use Rattle.mo_types.specs.Graph.{head_at}
 use Rattle.mo_values.specs.Alike.{AlikeAll}
 use Rattle.mo_values.specs.Costs.{weighing, sizes, most_levels}
 use Rattle.mo_values.specs.Shapes as shape
-use Rattle.mo_values.specs.Shapes.{Bytes, Tuple}
+use Rattle.mo_values.specs.Shapes.{Bytes, Tuple, size}
 use Rattle.mo_values.specs.Views.{tuple_of}
 use Rattle.mo_actor.specs.Executions.{Progress, Completion, Completes}
 use Rattle.mo_actor.specs.Results.{IsPrefix}
@@ -37,7 +37,7 @@ use Rattle.mo_machine.specs.Acts.{Store}
 use Rattle.mo_machine.specs.ActorLanguage.{Fields}
 use Rattle.mo_machine.specs.Configurations.{Configuration, Returns, Traps, Breaks, Run, Still, Ended, End, live_on}
 use Rattle.mo_machine.specs.Configurations as configuration
-use Rattle.mo_machine.specs.Environments.{Environment, at}
+use Rattle.mo_machine.specs.Environments.{Environment}
 use Rattle.mo_machine.specs.Exports.{part_at, values_in}
 use Rattle.mo_machine.specs.Frames as machine
 use Rattle.mo_machine.specs.Frames.{Stack}
@@ -51,7 +51,6 @@ use Rattle.elaboration_values.specs.Belonging.{Known, Names, Belongs, EachBelong
 use Rattle.elaboration_steps.specs.Stacks.{owed}
 use Rattle.elaboration_runs.specs.Calling.{Surrounded}
 use Rattle.elaboration_runs.specs.Ending.{Shows, Finish, Returned, Thrown, Trapped, Suspended, Asleep, Covers}
-use Rattle.elaboration_runs.specs.Entering.{Function}
 use Rattle.elaboration_runs.specs.Waiting.{Accounted}
 use Rattle.elaboration_runs.specs.Whole.{Serves}
 use Rattle.elaboration_runs.proofs.Whole.{no_end}
@@ -66,7 +65,7 @@ use Rattle.elaboration_starts.proofs.Calm.{ArePlain, CalmRun, base_calm, owes_no
 use Rattle.elaboration_starts.proofs.Evaluating.{steps_and}
 use Rattle.elaboration_starts.proofs.Reading.{Hold, Cheaply, reading_cheap}
 use Rattle.elaboration_starts.proofs.Saved.{cells_same, held_are, variables_both, sizes_both, levels_both}
-use Rattle.elaboration_starts.proofs.Starts.{no_still, no_value}
+use Rattle.elaboration_starts.proofs.Starting.{no_still, no_value}
 use Rattle.elaboration_starts.proofs.Tuples.{Last, based}
 
 pub no_more : {A : Type 0} (xs : List A) → xs ≡ xs ++ []
@@ -92,11 +91,24 @@ as_many_held env store [] (v ∷ vs) h = absurd h
 as_many_held env store (x ∷ xs) [] h = absurd h
 as_many_held env store (x ∷ xs) (v ∷ vs) h = ap (λ n. suc n) (as_many_held env store xs vs (h.1))
 
+-- each value has a part at least
+size_any : (v : source.Value) → 1 ≤ size (opening.shape_of v)
+size_any (source.Made head inside) = omega arith
+size_any (source.Function group which) = omega arith
+size_any (source.BuiltIn m holds) = omega arith
+
+sizes_enough : (vs : List Value) → length vs ≤ sizes (opening.shapes_list (unload_list vs))
+sizes_enough [] = omega arith
+sizes_enough (v ∷ vs) =
+    let x : 1 ≤ size (opening.shape_of (unload v)) = size_any (unload v) in
+    let y : length vs ≤ sizes (opening.shapes_list (unload_list vs)) = sizes_enough vs in
+    omega (arith, x, y)
+
 -- a form number and a length stand before the message
 memory_long : (message : Bytes) → 4 ≤ length (stable_memory message)
 memory_long message = omega arith
 
-module _ (times : ℕ) (enough : 4 ≤ times) (coding : Coding) (types : Types) (p : Program) (program : Core) (own : Bytes) (head_is : program.head ≡ head_at types) (known : List Known) (f : Fields) (g : core_actor.Fields)
+module _ (times : ℕ) (enough : 3 ≤ times) (coding : Coding) (types : Types) (p : Program) (program : Core) (own : Bytes) (head_is : program.head ≡ head_at types) (known : List Known) (f : Fields) (g : core_actor.Fields)
     (fields : FieldsBelong program g.names (globals program own g.names) known f g) (b : SavingBelongs p program known (globals program own g.names) f.exports) (sound : SaveIsSound times coding types p own f) where
   abbrev pub M : Machine State Waiting
   M = core_machine.core_machine program
@@ -192,7 +204,7 @@ module _ (times : ℕ) (enough : 4 ≤ times) (coding : Coding) (types : Types) 
     abbrev ce : Configuration
     ce = conf xe de prints calls store (machine.Give v) []
 
-    held_values : (vs : List Value) × HoldEach store (values_in (part_at 3 f.exports)) vs
+    pub held_values : (vs : List Value) × HoldEach store (values_in (part_at 3 f.exports)) vs
     held_values = sound.holds j ce v ends
 
     abbrev vs : List Value
@@ -232,11 +244,11 @@ module _ (times : ℕ) (enough : 4 ≤ times) (coding : Coding) (types : Types) 
 
     -- ---- the cells are read, from here on
 
-    module _ (w d : ℕ) (kb0 kb : Stack) (bases : Bases kb0 kb) (rich : 2 * (w + (many + (2 + many)) + 1) ≤ 4 * xe + 12) (deep : max d (live_on kb) ≤ de) where
+    module _ (w d : ℕ) (kb0 kb : Stack) (bases : Bases false kb0 kb) (rich : 2 * (w + (many + (2 + many)) + 1) ≤ 3 * xe + 2 * many + 8) (deep : max d (live_on kb) ≤ de) where
       abbrev tail : Configuration
       tail = conf w d prints calls store (machine.Eval (reading b.cells) b.env) kb
 
-      abbrev tuple : Value
+      abbrev pub tuple : Value
       tuple = Made Tuple (gathered vs)
 
       held_names : Hold b.env store b.cells vs
@@ -263,17 +275,19 @@ module _ (times : ℕ) (enough : 4 ≤ times) (coding : Coding) (types : Types) 
       abbrev last_one : Configuration
       last_one = conf last.weight last.depth prints calls store (machine.Give tuple) []
 
-      weighs : (c : Configuration) (wy : ℕ) → c.weight ≤ last.weight → wy ≤ 2 * c.weight + 0 → wy ≤ 4 * xe + 12
+      weighs : (c : Configuration) (wy : ℕ) → c.weight ≤ last.weight → wy ≤ 2 * c.weight + 0 → wy ≤ 3 * xe + 2 * many + 8
       weighs c wy h i = let x : last.weight ≤ w + (many + (2 + many)) + 1 = last.light in omega (arith, x, h, i, rich)
 
       abbrev coded : ℕ
       coded = sizes (opening.shapes_list (unload_list vs)) + memory
 
-      paid : (wy more : ℕ) → wy ≤ 4 * xe + 12 → more ≤ coded → wy + more ≤ times * (xe + coded)
+      paid : (wy more : ℕ) → wy ≤ 3 * xe + 2 * many + 8 → more ≤ coded → wy + more ≤ times * (xe + coded)
       paid wy more h i =
           let x : 4 ≤ memory = memory_long (coding.save types variables) in
-          let y : 4 * (xe + coded) ≤ times * (xe + coded) = mul-le-mul_right (xe + coded) enough in
-          omega (arith, x, y, h, i)
+          let z : length vs ≤ sizes (opening.shapes_list (unload_list vs)) = sizes_enough vs in
+          let o : length vs ≡ many = so_many in
+          let y : 3 * (xe + coded) ≤ times * (xe + coded) = mul-le-mul_right (xe + coded) enough in
+          omega (arith, x, y, z, o, h, i)
 
       low : (c : Configuration) (dy : ℕ) → c.depth ≤ last.depth → dy ≤ c.depth → dy ≤ de
       low c dy h i = let x : last.depth ≤ max d (live_on kb) = last.shallow in omega (arith, x, h, i, deep)
@@ -354,3 +368,20 @@ module _ (times : ℕ) (enough : 4 ≤ times) (coding : Coding) (types : Types) 
 
       pub tail_whole : (i : ℕ) (c : Configuration) → steps s i tail ≡ Ended c Breaks → ⊥
       tail_whole i c e = let z : Ended c Breaks ≡ Ended last_one (Returns tuple) = ends_once s i last.steps_to tail c last_one Breaks (Returns tuple) e last.by in cc
+
+      -- how it ends
+      pub tail_tells : (i : ℕ) × (d1 : Configuration) × (steps s i tail ≡ Ended d1 (Returns tuple))
+      tail_tells = (last.steps_to, last_one, last.by)
+
+      abbrev pub Has : Progress Kept → Type 0
+      Has x = (other : Completion Kept) × (x.completion ≡ Some other)
+
+      pub told : (known' : List Known) (wy dy : ℕ) (py : List Bytes) (wo : World) (u : core_value.Value) → Belongs known' tuple u → Has (Y (execution.Over wy dy py wo (execution.Replies u)))
+      told known' wy dy py wo (shape.Function h) value = absurd value
+      told known' wy dy py wo (shape.Made head us) value =
+          subst (λ o. Has (on_some (core_actor.progress wy dy py (weighing 0) None) (tuple_of (shape.Made o us)) (λ us. core_actor.saved M messages program wy dy py us (messages.save us)))) (value.0)
+          (subst (λ o. Has (core_actor.saved M messages program wy dy py (shape.listed us) (on_some None o (λ variables. Some (record { kept = record { types = types; variables = variables }; size = length (stable_memory (coding.save types variables)) }))))) is
+          (Completes (record { types = types; variables = variables }), refl))
+        where
+          is : Some variables ≡ variables_in coding types p p.stable (shape.listed us)
+          is = sym (kept_variables.1) ∙ (ap (variables_of types p.stable) gone_is ∙ variables_both coding types p known' p.stable vs (shape.listed us) (names_belong known' vs us (value.1)))

@@ -1,5 +1,5 @@
 -- What is asked of values where declarations are evaluated is the same for those that end in a tuple of their names.
-use Rattle.std.proofs.Common.{◌≡◌, ℕ, ◌+◌, List, [], ◌∷◌, ◌++◌, Option}
+use Rattle.std.proofs.Common.{Bool, ◌≡◌, ℕ, List, [], ◌∷◌, ◌++◌, Option}
 use Rattle.mo_values.specs.Shapes.{Bytes}
 use Rattle.core_ir.specs.Values as core_value
 use Rattle.typed_tree.specs.declared.action.Action.{Action}
@@ -17,7 +17,7 @@ use Rattle.elaboration_steps.specs.Follows.{HandlerMeets, Suits}
 use Rattle.elaboration_runs.specs.Whole.{Serves}
 use Rattle.elaboration_starts.proofs.Alongside.{Bases, Alone, Hooked, Joined, Lies, Within, Between, base_owed, above_owed}
 
-base_handles : (k l : Stack) → Bases k l → (u : core_value.Value) → HandlerMeets l u
+pub base_handles : {t : Bool} → (k l : Stack) → Bases t k l → (u : core_value.Value) → HandlerMeets l u
 base_handles k l (Alone n) u = tt
 base_handles k l (Hooked n env) u = tt
 base_handles k l (Joined k' l' b) u = base_handles k' l' b u
@@ -47,9 +47,9 @@ module _ (one two : Stack) (below : (u : core_value.Value) → HandlerMeets two 
   value_suits known v (Switching cases env) s h = h
   value_suits known v _ s h = tt
 
-module _ (s : Surroundings) (outer : Environment) (methods : ℕ) (last : Functions) (before : Option ℕ) (labels : List Bytes) (cells : List ℕ) (total extra floor : ℕ) where
+module _ (s : Surroundings) (outer : Environment) (methods : ℕ) (last : Functions) (before after : Option ℕ) (labels : List Bytes) (cells : List ℕ) (total : ℕ) (upgraded : Bool) (extra floor : ℕ) where
   abbrev L : ℕ → Focus → Stack → Focus → Stack → Type 0
-  L = Lies s outer methods last before labels cells total extra floor
+  L = Lies s outer methods last before after labels cells total upgraded extra floor
 
   pub owed_same : (w : ℕ) (f : Focus) (k : Stack) (g : Focus) (l : Stack) → L w f k g l → owed k ≡ owed l
   owed_same w f k g l (Within m p b c env f0 s0 k0 l0 base d u few) = above_owed s0 (Switching (ACase p b NoCase) env ∷ k0) (Switching (ACase p c NoCase) env ∷ l0) (base_owed k0 l0 base)

@@ -1,5 +1,5 @@
 -- A tuple of names that were declared, exactly.
-use Rattle.std.proofs.Common.{◌≡◌, ℕ, suc, ◌+◌, ◌*◌, ◌≤◌, List, [], ◌∷◌, ◌++◌, length, Some, None, slice_get, refl, ap, ◌∙◌, subst, arith}
+use Rattle.std.proofs.Common.{◌≡◌, Bool, ℕ, suc, ◌+◌, ◌*◌, ◌≤◌, List, [], ◌∷◌, ◌++◌, length, Some, None, slice_get, refl, ap, ◌∙◌, subst, arith}
 use Rattle.std.specs.Prelude.{max}
 use Rattle.mo_types.specs.Graph.{head_at}
 use Rattle.mo_values.specs.declared.operation.Operation.TheVariants as op
@@ -10,7 +10,7 @@ use Rattle.mo_meaning.specs.Configurations.{Surroundings}
 use Rattle.mo_meaning.specs.Kernel.{Outgoing}
 use Rattle.mo_machine.specs.Values.{Value, Made, gathered, shapes_list}
 use Rattle.mo_machine.specs.Acts.{Store}
-use Rattle.mo_machine.specs.Environments.{Environment, at, extended}
+use Rattle.mo_machine.specs.Environments.{Environment, at}
 use Rattle.mo_machine.specs.Configurations.{Configuration, Returns, Still, Ended, live_on, live_state}
 use Rattle.mo_machine.specs.Frames.{Operands, Returning, Joining, Stack, Focus, Eval, Ready, Give}
 use Rattle.mo_machine.specs.Moves.{found}
@@ -18,7 +18,7 @@ use Rattle.mo_machine.specs.Reductions.{reduces}
 use Rattle.mo_machine.specs.Turns.{turn, after, step, steps, then_steps}
 use Rattle.elaboration_starts.specs.Declarations.{names_from, made}
 use Rattle.elaboration_starts.proofs.Alongside.{Bases, Alone, Hooked, Joined, conf}
-use Rattle.elaboration_starts.proofs.Evaluating.{list_back, at_front, steps_and}
+use Rattle.elaboration_starts.proofs.Evaluating.{list_back, steps_and}
 
 module _ (s : Surroundings) (prints : List Bytes) (calls : List Outgoing) (store : Store) where
   abbrev C : ℕ → ℕ → Focus → Stack → Configuration
@@ -63,10 +63,10 @@ module _ (s : Surroundings) (prints : List Bytes) (calls : List Outgoing) (store
         named : (v : Value) → at env (i + 0) ≡ Some v → (k : Stack) → step s (C w d (Eval (Name i) env) k) ≡ Still (C w d (Give v) k)
         named v e k = ap (λ o. after s (C w d (Eval (Name i) env) k) (turn s (C w d (Eval (Name i) env) k) (reduces (head_at s.types) None store (Eval (Name i) env) k)) (found o k)) (ap (at env) (let z : i ≡ i + 0 = omega arith in z) ∙ e)
 
-    all_come : (vs : List Value) → ((j : ℕ) (u : Value) → slice_get vs j ≡ Some u → at env (0 + j) ≡ Some u) → Comes w d (Eval (made op.MakeTuple (names_from 0 (length vs))) env) k w d (ready vs) k
-    all_come [] h = record { steps_to = 1; by = refl }
-    all_come (v ∷ vs) h =
-        then_comes w d w d w d (Eval (made op.MakeTuple (names_from 0 (suc (length vs)))) env) (Eval (Name 0) env) (ready (v ∷ vs)) k (Operands (action.Operate op.MakeTuple) [] (names_from 1 (length vs)) env ∷ k) k refl (names_come 0 [] v vs h)
+    all_come : (i : ℕ) (vs : List Value) → ((j : ℕ) (u : Value) → slice_get vs j ≡ Some u → at env (i + j) ≡ Some u) → Comes w d (Eval (made op.MakeTuple (names_from i (length vs))) env) k w d (ready vs) k
+    all_come i [] h = record { steps_to = 1; by = refl }
+    all_come i (v ∷ vs) h =
+        then_comes w d w d w d (Eval (made op.MakeTuple (names_from i (suc (length vs)))) env) (Eval (Name i) env) (ready (v ∷ vs)) k (Operands (action.Operate op.MakeTuple) [] (names_from (suc i) (length vs)) env ∷ k) k refl (names_come i [] v vs h)
 
   -- the end of the declarations
   pub record Last (w d : ℕ) (f : Focus) (k : Stack) (v : Value) (most deep : ℕ) : Type 0 where
@@ -90,7 +90,7 @@ module _ (s : Surroundings) (prints : List Bytes) (calls : List Outgoing) (store
     shallow = q.shallow;
   }
 
-  pub based : (v : Value) (k l : Stack) → Bases k l → (w d : ℕ) → Last w d (Give v) l v (w + 1) (max d (live_on l))
+  pub based : {t : Bool} → (v : Value) (k l : Stack) → Bases t k l → (w d : ℕ) → Last w d (Give v) l v (w + 1) (max d (live_on l))
   based v k l (Alone n) w d = ended v n w d
     where
       ended : (v : Value) (n w d : ℕ) → Last w d (Give v) (Returning n ∷ []) v (w + 1) (max d (16 + n + 0))
@@ -98,11 +98,11 @@ module _ (s : Surroundings) (prints : List Bytes) (calls : List Outgoing) (store
   based v k l (Hooked n env) w d = record { steps_to = 2; weight = w + 1; depth = max (max d (live_state (Give v) (Returning n ∷ []) + 16 * 0)) (live_state (Give v) []); by = refl; light = omega arith; shallow = omega arith }
   based v k l (Joined k' l' b) w d = step_last w d w d (w + 1) (max d (0 + live_on l')) (Give v) (Give v) (Joining ∷ l') l' v refl (subst (λ n. Last w d (Give v) l' v (w + 1) (max d n)) (let z : live_on l' ≡ 0 + live_on l' = omega arith in z) (based v k' l' b w d))
 
-  pub tuple_last : (vs : List Value) (outer : Environment) (k l : Stack) → Bases k l → (w d : ℕ)
-      → Last w d (Eval (made op.MakeTuple (names_from 0 (length vs))) (extended vs outer)) l (Made Tuple (gathered vs)) (w + (2 + length vs) + 1) (max d (live_on l))
-  tuple_last vs outer k l b w d =
-      comes_last w d w d (w + (2 + length vs) + 1) (max d (live_on l)) (Eval (made op.MakeTuple (names_from 0 (length vs))) (extended vs outer)) (Ready (action.Operate op.MakeTuple) vs) l l (Made Tuple (gathered vs))
-      (all_come (extended vs outer) w d l vs (λ j u e. subst (λ n. at (extended vs outer) n ≡ Some u) (let z : j ≡ 0 + j = omega arith in z) (at_front vs outer j u e)))
+  pub tuple_last : {t : Bool} → (i : ℕ) (vs : List Value) (env : Environment) → ((j : ℕ) (u : Value) → slice_get vs j ≡ Some u → at env (i + j) ≡ Some u) → (k l : Stack) → Bases t k l → (w d : ℕ)
+      → Last w d (Eval (made op.MakeTuple (names_from i (length vs))) env) l (Made Tuple (gathered vs)) (w + (2 + length vs) + 1) (max d (live_on l))
+  tuple_last i vs env there k l b w d =
+      comes_last w d w d (w + (2 + length vs) + 1) (max d (live_on l)) (Eval (made op.MakeTuple (names_from i (length vs))) env) (Ready (action.Operate op.MakeTuple) vs) l l (Made Tuple (gathered vs))
+      (all_come env w d l i vs there)
       (step_last w d w1 d1 (w + (2 + length vs) + 1) (max d (live_on l)) (Ready (action.Operate op.MakeTuple) vs) (Give (Made Tuple (gathered vs))) l l (Made Tuple (gathered vs)) (ap (λ x. Still (C w1 d1 (Give (Made Tuple x)) l)) (list_back vs)) rest)
     where
       w1 : ℕ

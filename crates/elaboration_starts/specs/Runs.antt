@@ -38,11 +38,11 @@ module _ (times : ℕ) (coding : Coding) (own : List ℕ) (allowed : Event → B
 
 abbrev pub ElaboratedRunsKeep : Type 0
 ElaboratedRunsKeep =
-    (times : ℕ) → 4 ≤ times → (coding : Coding) (own : List ℕ) (allowed : Event → Bool) (fits : Kept → Bool) (versions : List Version) → AllByRecursion (IsElaborated times coding own allowed fits) versions
+    (times : ℕ) → 3 ≤ times → (coding : Coding) (own : List ℕ) (allowed : Event → Bool) (fits : Kept → Bool) (versions : List Version) → AllByRecursion (IsElaborated times coding own allowed fits) versions
     → RunsBy times coding own allowed fits Unmeasured Unmeasured versions
 
 -- with exhaustions, deserved by so many steps and pages
 abbrev pub MeasuredElaboratedRunsKeep : Type 0
 MeasuredElaboratedRunsKeep =
-    (times : ℕ) → 4 ≤ times → (coding : Coding) (own : List ℕ) (allowed : Event → Bool) (fits : Kept → Bool) (versions : List Version) → AllByRecursion (IsElaborated times coding own allowed fits) versions
+    (times : ℕ) → 3 ≤ times → (coding : Coding) (own : List ℕ) (allowed : Event → Bool) (fits : Kept → Bool) (versions : List Version) → AllByRecursion (IsElaborated times coding own allowed fits) versions
     → (steps stack pages more_steps more_pages : ℕ) → times * steps ≤ more_steps → times * pages ≤ more_pages → RunsBy times coding own allowed fits (Spent steps stack pages) (Spent more_steps stack more_pages) versions

@@ -27,6 +27,7 @@ use Rattle.mo_machine.specs.Values.{Value}
 use Rattle.elaboration.specs.Playing.{messages_of}
 use Rattle.elaboration_values.specs.Belonging.{Known}
 use Rattle.elaboration_actors.specs.Actors.{globals}
+use Rattle.elaboration_actors.specs.Ends.{EndsToo}
 use Rattle.elaboration_actors.specs.Bodies.{Follows, FieldsBelong}
 use Rattle.elaboration_actors.specs.Saving.{SavingBelongs}
 use Rattle.elaboration_starts.specs.Starts.{StartIsSound}
@@ -46,7 +47,15 @@ pub record SaveIsSound (times : ℕ) (coding : Coding) (types : Types) (p : Prog
 
 abbrev pub SavesFollow : Type 0
 SavesFollow =
-    (times : ℕ) → 4 ≤ times → (coding : Coding) (types : Types) (p : Program) (program : Core) (first memory : ℕ) (own : Bytes) → program.head ≡ head_at types
+    (times : ℕ) → 3 ≤ times → (coding : Coding) (types : Types) (p : Program) (program : Core) (first memory : ℕ) (own : Bytes) → program.head ≡ head_at types
     → (known : List Known) (f : Fields) (g : core_actor.Fields) → FieldsBelong program g.names (globals program own g.names) known f g → SavingBelongs p program known (globals program own g.names) f.exports
     → SaveIsSound times coding types p own f
     → Follows times (λ (k : Kept) (l : Kept). l ≡ k) ((with_states coding first types p).save own f) ((actor_program (core_machine program) (messages_of coding types p) program memory).save own g)
+
+-- where the typed save has ended, Core's has
+abbrev pub SavesEnd : Type 0
+SavesEnd =
+    (times : ℕ) → 3 ≤ times → (coding : Coding) (types : Types) (p : Program) (program : Core) (first memory : ℕ) (own : Bytes) → program.head ≡ head_at types
+    → (known : List Known) (f : Fields) (g : core_actor.Fields) → FieldsBelong program g.names (globals program own g.names) known f g → SavingBelongs p program known (globals program own g.names) f.exports
+    → SaveIsSound times coding types p own f
+    → EndsToo ((with_states coding first types p).save own f) ((actor_program (core_machine program) (messages_of coding types p) program memory).save own g)

@@ -1,6 +1,6 @@
 -- Installs of the actor of an elaborated program, and upgrades to it, do what those of the typed program do (Motoko language manual, sections "Actors" and
 -- "Stable variables").
-use Rattle.std.specs.Prelude.{◌≡◌, ℕ, ◌≤◌, false, List, length, Option, Some, None}
+use Rattle.std.specs.Prelude.{◌≡◌, ◌⊎◌, ℕ, ◌≤◌, Bool, false, List, length, Option, Some, None}
 use Rattle.std.specs.List.{AllByRecursion}
 use Rattle.mo_types.specs.Graph.{head_at}
 use Rattle.mo_values.specs.Shapes.{Bytes}
@@ -26,9 +26,10 @@ use Rattle.elaboration.specs.Scopes.{Place, labelled}
 use Rattle.elaboration_forms.specs.Elaborates.{DeclarationsStand, Stands}
 use Rattle.elaboration_runs.specs.Entering.{Function, function_in}
 use Rattle.elaboration_actors.specs.Actors.{Begun}
+use Rattle.elaboration_actors.specs.Ends.{EndsToo}
 use Rattle.elaboration_actors.specs.Bodies.{Sound, Follows}
 use Rattle.elaboration_actors.specs.Starts.{MethodsStand}
-use Rattle.elaboration_starts.specs.Declarations.{Declares, PartsStand, places_known}
+use Rattle.elaboration_starts.specs.Declarations.{Declares, PartsStand, DeclaresNothing, places_known}
 use Rattle.elaboration_starts.specs.Staying.{StaysAt}
 
 -- the hook before an upgrade has no parameters, and stands under its label
@@ -36,23 +37,34 @@ abbrev pub HookStands : List Place → Functions → Option ℕ → Type 0
 HookStands places last None = Unit {0}
 HookStands places last (Some h) = (f : Function) × (function_in last h ≡ Some f) × (f.parameters ≡ NoPat) × (1 ≤ f.nodes) × Stands false (labelled (outside places)) f.body
 
--- the program is one of declarations, without a hook behind an upgrade, and each name has its place
+-- the hook behind an upgrade has none either
+abbrev pub CalledBehind : Functions → Option ℕ → Type 0
+CalledBehind last None = Unit {0}
+CalledBehind last (Some h) = (f : Function) × (function_in last h ≡ Some f) × (f.parameters ≡ NoPat)
+
+-- the program is one of declarations, and each name has its place
 pub record ActorStands (p : Program) : Type 0 where
   pub last : Functions
   pub total : ℕ
   pub before : Option ℕ
+  pub after : Option ℕ
   pub labels : List Bytes
   pub cells : List ℕ
-  pub named : Exp
-  pub declares : Declares (length p.methods) last before labels cells total 0 p.body named
-  pub parts : PartsStand (length p.methods) last before labels cells total
+  -- in a start, or an upgrade
+  pub named : Bool → Exp
+  pub declares : (upgraded : Bool) → Declares (length p.methods) last before after labels cells total upgraded 0 p.body (named upgraded)
+  pub parts : PartsStand (length p.methods) last before after labels cells total
   pub stand : DeclarationsStand (start_scope (length p.methods) (length p.stable)) p.body
   pub methods : MethodsStand (places_known (length p.methods) (length p.stable) total last) (firsts (length p.methods) last)
   pub hook : HookStands (places_known (length p.methods) (length p.stable) total last) last before
+  pub upgraded : CalledBehind last after
   -- each stable variable has a cell among the declared names
   pub as_many : length cells ≡ length p.stable
   pub declared : AllByRecursion (λ x. count last ≤ x) cells
-  pub nodes : 1 ≤ p.nodes
+  -- each name that they declare is one of their nodes at least
+  pub names : total ≤ p.nodes
+  -- the declarations have a node, or there are none
+  pub nodes : (1 ≤ p.nodes) ⊎ DeclaresNothing p.body
 
 -- a start is sound, and stays inside the declarations
 pub record StartIsSound (times : ℕ) (s : Surroundings) (c : Configuration) : Type 0 where
@@ -65,12 +77,27 @@ module _ (times : ℕ) (coding : Coding) (types : Types) (p : Program) (first me
       StartIsSound times (alone coding types own) (start_from coding types p own kept)
       → Follows times (Begun coding types p (elaborated p) (messages_of coding types p) own) ((with_states coding first types p).start own kept) ((actor_program (core_machine (elaborated p)) (messages_of coding types p) (elaborated p) memory).start own kept)
 
+  -- where it has ended, Core's has
+  abbrev pub StartEnds : Option Kept → Type 0
+  StartEnds kept =
+      StartIsSound times (alone coding types own) (start_from coding types p own kept)
+      → EndsToo ((with_states coding first types p).start own kept) ((actor_program (core_machine (elaborated p)) (messages_of coding types p) (elaborated p) memory).start own kept)
+
 abbrev pub InstallsFollow : Type 0
 InstallsFollow =
-    (times : ℕ) → 4 ≤ times → (coding : Coding) (types : Types) (p : Program) (first memory : ℕ) (own : Bytes) → (elaborated p).head ≡ head_at types → ActorStands p → StartFollows times coding types p first memory own None
+    (times : ℕ) → 3 ≤ times → (coding : Coding) (types : Types) (p : Program) (first memory : ℕ) (own : Bytes) → (elaborated p).head ≡ head_at types → ActorStands p → StartFollows times coding types p first memory own None
 
 -- over values of the new types
 abbrev pub UpgradesFollow : Type 0
 UpgradesFollow =
-    (times : ℕ) → 4 ≤ times → (coding : Coding) (types : Types) (p : Program) (first memory : ℕ) (own : Bytes) → (elaborated p).head ≡ head_at types → ActorStands p
+    (times : ℕ) → 3 ≤ times → (coding : Coding) (types : Types) (p : Program) (first memory : ℕ) (own : Bytes) → (elaborated p).head ≡ head_at types → ActorStands p
     → (kept : Kept) (vs : List (Option source.Value)) → all_kept (all_taken coding kept.types types kept.variables p.stable) ≡ Some vs → StartFollows times coding types p first memory own (Some kept)
+
+abbrev pub InstallsEnd : Type 0
+InstallsEnd =
+    (times : ℕ) → 3 ≤ times → (coding : Coding) (types : Types) (p : Program) (first memory : ℕ) (own : Bytes) → (elaborated p).head ≡ head_at types → ActorStands p → StartEnds times coding types p first memory own None
+
+abbrev pub UpgradesEnd : Type 0
+UpgradesEnd =
+    (times : ℕ) → 3 ≤ times → (coding : Coding) (types : Types) (p : Program) (first memory : ℕ) (own : Bytes) → (elaborated p).head ≡ head_at types → ActorStands p
+    → (kept : Kept) (vs : List (Option source.Value)) → all_kept (all_taken coding kept.types types kept.variables p.stable) ≡ Some vs → StartEnds times coding types p first memory own (Some kept)

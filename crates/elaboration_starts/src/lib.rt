@@ -5,5 +5,6 @@
 mod laws;
 
 pub use laws::{
-    elaborated_runs_are_kept, installs_are_followed, saves_are_followed, upgrades_are_followed,
+    elaborated_runs_are_kept, installs_are_followed, saves_are_followed, starts_and_saves_end,
+    upgrades_are_followed,
 };

@@ -36,12 +36,12 @@ use Rattle.typed_tree.specs.declared.action.Member.{Member}
 use Rattle.typed_tree.specs.declared.action.Member.TheVariants as member
 use Rattle.mo_machine.specs.Values as machine_value
 use Rattle.mo_machine.specs.Values.{Value, Made, Closure, BuiltIn, NoValue, AValue, Code, shape_of, shapes_list, value_of}
-use Rattle.mo_machine.specs.Acts.{Store, Act, Stuck, goes}
+use Rattle.mo_machine.specs.Acts.{Store, Act, goes}
 use Rattle.mo_machine.specs.Frames as machine
 use Rattle.mo_machine.specs.Frames.{Stack, Ready}
 use Rattle.mo_machine.specs.Measure.{left_on}
 use Rattle.mo_machine.specs.Cells.{cell_of, held, goes_to, written, written_in}
-use Rattle.mo_machine.specs.Jumps.{on_stack, unwrapped, leave}
+use Rattle.mo_machine.specs.Jumps.{on_stack, unwrapped}
 use Rattle.mo_machine.specs.Actions as actions
 use Rattle.elaboration.specs.Scopes as scopes
 use Rattle.elaboration.specs.Scopes.{one}

@@ -15,7 +15,7 @@ use Rattle.mo_machine.specs.Members.{calls_code}
 use Rattle.elaboration.specs.Scopes.{Scope, beside}
 use Rattle.elaboration_forms.specs.Elaborates.{Elaborates, ElaboratesAll, ElaboratesNames}
 use Rattle.elaboration_values.specs.Belonging.{Known}
-use Rattle.elaboration_steps.specs.Stacks.{Labels, scope, turn_with, gathering_of, StackBelongs, Bottom, InFunction, InGathering, InOperands, InMaking, InCalling, InHolding, InChoosing, InLet, InSwitch, InLabel, InTesting, InTurning, InRepeating, InRetesting, InTry, InUpdating, InGoing, InTurn, InBody, InBranch, InCase}
+use Rattle.elaboration_steps.specs.Stacks.{Labels, scope, turn_with, gathering_of, StackBelongs, Bottom, InFunction, InGathering, InOperands, InMaking, InCalling, InHolding, InChoosing, InLet, InSwitch, InLabel, InTesting, InTurning, InRepeating, InRetesting, InTry, InUpdating, InGoing, InTurn, InBody, InBranch, InCase, InEndless}
 use Rattle.elaboration_steps.proofs.Levels.{joins_level, skips_level}
 
 calls_live : (next left : ℕ) → live_all (calls_code next left) ≡ 0
@@ -84,6 +84,7 @@ module _ (table : List (programs.Group Body)) where
     as_deep b l held k ck (InLabel x m h j cj r) = below j cj (as_deep x m h j cj r)
     as_deep b l held k ck (InTesting x m h y z env j c d vals cj p q r) = below j cj (as_deep x m h j cj r)
     as_deep b l held k ck (InTurning x m h y z env j c d vals cj p q r) = below j cj (as_deep x m h j cj r)
+    as_deep b l held k ck (InEndless x m h y env j d vals cj q r) = below j cj (as_deep x m h j cj r)
     as_deep b l held k ck (InRepeating x m h y z env j d c vals cj p q r) = below j cj (as_deep x m h j cj r)
     as_deep b l held k ck (InRetesting x m h y z env j d c v vals cj p q r) = below j cj (as_deep x m h j cj r)
     as_deep b l held k ck (InTry m h p e env j c vals cj q r) = below j cj (as_deep true m h j cj r)

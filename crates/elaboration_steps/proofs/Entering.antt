@@ -40,13 +40,13 @@ use Rattle.elaboration.specs.Elaboration.{number_of_parameters, on_parameters}
 use Rattle.elaboration.specs.Meeting.{MeetEach, Reads, Extends, Joins, Decides}
 use Rattle.elaboration.proofs.Coming.{reads_new, reads_more, ReadDown, down_more}
 use Rattle.elaboration.proofs.Checking.{decide_all}
-use Rattle.elaboration_forms.specs.Elaborates.{Elaborates, ElaboratesFunctions}
-use Rattle.elaboration_values.specs.Belonging.{Known, OfFunctions, OfMember, code_in, Names, EachBelongs, AlikeFound, EnvironmentBelongs}
+use Rattle.elaboration_forms.specs.Elaborates.{unseen, Elaborates, ElaboratesFunctions, ElaboratesOne}
+use Rattle.elaboration_values.specs.Belonging.{Known, OfFunctions, OfOne, OfMember, code_in, Names, EachBelongs, AlikeFound, EnvironmentBelongs}
 use Rattle.elaboration_values.proofs.Belong.{patterns, names_extend}
-use Rattle.elaboration_steps.specs.Stacks.{Labels, no_labels, scope, FunctionsBelong, WorldBelongs, AtCode, Around, InFunction}
+use Rattle.elaboration_steps.specs.Stacks.{Labels, no_labels, scope, FunctionsBelong, OneBelongs, WorldBelongs, AtCode, Around, InFunction}
 use Rattle.elaboration_steps.specs.Follows.{Start, owed, ParametersMeet, Acts, TrapsInBody}
 use Rattle.elaboration_steps.proofs.Depth.{as_deep}
-use Rattle.elaboration_steps.proofs.Groups.{with_members, as_many_bodies, group_names}
+use Rattle.elaboration_steps.proofs.Groups.{with_members, as_many_bodies, group_names, behind_group}
 use Rattle.elaboration_steps.proofs.Matching.{names_more, coded}
 use Rattle.elaboration_steps.proofs.Paths.{nothing_more, does_then, stops_in}
 use Rattle.elaboration_steps.proofs.Values.{as_many, values_belong}
@@ -119,6 +119,15 @@ module _ (table : List (Group Body)) (s : Scope) (T : Act → Type 0) (store : S
   function_at (AFunction how nodes ps body fns) bodies (suc n) none r meets f =
       function_at fns (r.1) n none (r.3) meets (λ nodes2 ps2 body2 y at code m. f nodes2 ps2 body2 y (ap (λ l. slice_get l (suc n)) (r.4) ∙ at) code m)
 
+  one_at : (fns : Functions) (n : ℕ) (b : Body) → T Stuck → ElaboratesOne table s fns n b → ParametersMeet fns n ws
+      → ((nodes : ℕ) (ps : Pats) (body : Exp) (y : core.Exp) → b ≡ record { parameters = number_of_parameters ps; nodes = nodes; expression = around_all (on_parameters ps s).checks fails y }
+      → Elaborates table false (behind (on_parameters ps s) (in_body (number_of_parameters ps) s)) body y → MeetEach ps ws
+      → T (on_stack store (cond (are_as_many ps vs) (entered store group env (entering nodes ps (shapes_list vs)) nodes body (matches_all ps (shapes_list vs))) Stuck) k))
+      → T (on_stack store (call_function store group env fns n vs) k)
+  one_at NoFunction n b none r meets f = none
+  one_at (AFunction how nodes ps body fns) zero b none r meets f = f nodes ps body (r.0) (r.2) (r.1) meets
+  one_at (AFunction how nodes ps body fns) (suc n) b none r meets f = one_at fns n b none r meets f
+
 module _ (program : Core) (context : Context) (nodes : ℕ) (before : Start) (held : ℕ) (known : List Known) (world : World) (store : Store) (k : Stack) (worlds : WorldBelongs program.groups known context.globals store world) (spent : ℕ) (cf : Focus) (ck : List Frame) where
   abbrev A : Act → Type 0
   A = Acts program context nodes before held known world store k spent cf ck
@@ -133,90 +142,83 @@ module _ (program : Core) (context : Context) (nodes : ℕ) (before : Start) (he
       (weighs : (n : ℕ) (s : State) → how (Go (weighing (1 + n)) [] world s) ≡ Go (weighing (extra + (1 + n))) [] world s) (small : extra ≤ 1) (paid : spent + less ≤ held)
       (eq : focused program context nodes world cf ck ≡ how (called program context nodes world (Function h) ws gathering others)) (low : live_on k ≤ before.live) where
     -- the function is entered, and its parameters are looked at
-    enters : (group : Functions) (env : Environment) (there : slice_get known h.group ≡ Some (OfFunctions group env)) (made : MadeGroup) → slice_get world.groups h.group ≡ Some made → (r : FunctionsBelong program.groups known context.globals group env made)
-        → (n : ℕ) (ps : Pats) (body : Exp) (y : core.Exp) → slice_get r.bodies h.member ≡ Some (record { parameters = number_of_parameters ps; nodes = n; expression = around_all (on_parameters ps (under (count group) (scope r.places r.labels made.seen))).checks fails y })
-        → Elaborates program.groups false (behind (on_parameters ps (under (count group) (scope r.places r.labels made.seen))) (in_body (number_of_parameters ps) (under (count group) (scope r.places r.labels made.seen)))) body y → MeetEach ps ws
-        → (m : Bool) → are_as_many ps vs ≡ m → T (on_stack store (cond m (entered store group env (entering n ps (shapes_list vs)) n body (matches_all ps (shapes_list vs))) Stuck) k)
-    enters group env there made at_group r n ps body y at_body code meets false many = (tt, tt)
-    enters group env there made at_group r n ps body y at_body code meets true many = go (matches_all ps (shapes_list vs)) (matches_all ps ws) (alike.0) (decide_all program context nodes world ps ws level names vals (Caller n gathering ∷ others) same_names (read_arguments ws rest level same_level) meets)
-      where
-        s : Scope
-        s = under (count group) (scope r.places r.labels made.seen)
+    module _ (group : Functions) (env : Environment) (made : MadeGroup) (at_group : slice_get world.groups h.group ≡ Some made) (bodies : List Body) (there : slice_get program.groups made.code ≡ Some (record { sees = length made.seen; bodies = bodies }))
+        (s : Scope) (same : s.names ≡ length (members h.group 0 (length bodies) ++ made.seen)) (around_names : EnvironmentBelongs known context.globals s.places (with_group group env) (members h.group 0 (length bodies) ++ made.seen)) where
+      enters : (n : ℕ) (ps : Pats) (body : Exp) (y : core.Exp) → slice_get bodies h.member ≡ Some (record { parameters = number_of_parameters ps; nodes = n; expression = around_all (on_parameters ps s).checks fails y })
+          → Elaborates program.groups false (behind (on_parameters ps s) (in_body (number_of_parameters ps) s)) body y → MeetEach ps ws
+          → (m : Bool) → are_as_many ps vs ≡ m → T (on_stack store (cond m (entered store group env (entering n ps (shapes_list vs)) n body (matches_all ps (shapes_list vs))) Stuck) k)
+      enters n ps body y at_body code meets false many = (tt, tt)
+      enters n ps body y at_body code meets true many = go (matches_all ps (shapes_list vs)) (matches_all ps ws) (alike.0) (decide_all program context nodes world ps ws level names vals (Caller n gathering ∷ others) same_names (read_arguments ws rest level same_level) meets)
+        where
+          rest : List core_value.Value
+          rest = members h.group 0 (length bodies) ++ made.seen
 
-        rest : List core_value.Value
-        rest = members h.group 0 (length r.bodies) ++ made.seen
+          vals : List core_value.Value
+          vals = ws ++ rest
 
-        vals : List core_value.Value
-        vals = ws ++ rest
+          level : ℕ
+          level = number_of_parameters ps + s.names - 1
 
-        level : ℕ
-        level = number_of_parameters ps + s.names - 1
+          names : ℕ
+          names = number_of_parameters ps + s.names
 
-        names : ℕ
-        names = number_of_parameters ps + s.names
+          c' : Checked
+          c' = on_parameters ps s
 
-        c' : Checked
-        c' = on_parameters ps s
+          arguments_are : length ws ≡ number_of_parameters ps
+          arguments_are = sym (as_many known vs ws arguments) ∙ as_parameters ps vs many
 
-        bodies_are : length r.bodies ≡ count group
-        bodies_are = as_many_bodies program.groups s group r.bodies r.code
+          same_names : names ≡ length vals
+          same_names =
+              let x : length (ws ++ rest) ≡ length ws + length rest = append_length ws rest in
+              let z : s.names ≡ length rest = same in
+              let u : length ws ≡ number_of_parameters ps = arguments_are in
+              omega (arith, x, z, u)
 
-        arguments_are : length ws ≡ number_of_parameters ps
-        arguments_are = sym (as_many known vs ws arguments) ∙ as_parameters ps vs many
+          same_level : level ≡ length vals - 1
+          same_level = ap (λ n. n - 1) same_names
 
-        same_names : names ≡ length vals
-        same_names =
-            let x : length (ws ++ rest) ≡ length ws + length rest = append_length ws rest in
-            let z : length rest ≡ length r.bodies + length made.seen = with_members h.group 0 (length r.bodies) made.seen in
-            let u : length ws ≡ number_of_parameters ps = arguments_are in
-            let t : length r.bodies ≡ count group = bodies_are in
-            omega (arith, x, z, u, t)
+          alike : AlikeFound known (matches_all ps (shapes_list vs)) (matches_all ps ws) × (weight_of_all ps (shapes_list vs) ≡ weight_of_all ps ws)
+          alike = all_alike known ps (shapes_list vs) ws arguments
 
-        same_level : level ≡ length vals - 1
-        same_level = ap (λ n. n - 1) same_names
+          entry : Body → Did
+          entry z = cond (nat_eq (length ws) z.parameters) (core_machine.go program context nodes (1 + z.nodes) world (Eval z.expression vals) (Caller z.nodes gathering ∷ others)) (stuck program context nodes world)
 
-        alike : AlikeFound known (matches_all ps (shapes_list vs)) (matches_all ps ws) × (weight_of_all ps (shapes_list vs) ≡ weight_of_all ps ws)
-        alike = all_alike known ps (shapes_list vs) ws arguments
+          begins : focused program context nodes world cf ck ≡ Go (weighing (extra + (1 + n))) [] world (at program context nodes (Eval (around_all c'.checks fails y) vals) (Caller n gathering ∷ others))
+          begins =
+              eq
+              ∙ (ap how (ap (λ o. on_some (stuck program context nodes world) o (λ g. on_some (stuck program context nodes world) (slice_get program.groups g.code) (λ i. cond (nat_eq (length g.seen) i.sees) (core_machine.entered program context nodes world h.group ws g.seen gathering others i.bodies h.member) (stuck program context nodes world)))) at_group
+              ∙ (ap (λ o. on_some (stuck program context nodes world) o (λ i. cond (nat_eq (length made.seen) i.sees) (core_machine.entered program context nodes world h.group ws made.seen gathering others i.bodies h.member) (stuck program context nodes world))) there
+              ∙ (ap (λ t. cond t (core_machine.entered program context nodes world h.group ws made.seen gathering others bodies h.member) (stuck program context nodes world)) (eq-eqb (length made.seen) (length made.seen) refl)
+              ∙ (ap (λ o. on_some (stuck program context nodes world) o entry) at_body
+              ∙ ap (λ t. cond t (core_machine.go program context nodes (1 + n) world (Eval (around_all c'.checks fails y) vals) (Caller n gathering ∷ others)) (stuck program context nodes world)) (eq-eqb (length ws) (number_of_parameters ps) arguments_are)))))
+              ∙ weighs n (at program context nodes (Eval (around_all c'.checks fails y) vals) (Caller n gathering ∷ others)))
 
-        entry : Body → Did
-        entry z = cond (nat_eq (length ws) z.parameters) (core_machine.go program context nodes (1 + z.nodes) world (Eval z.expression vals) (Caller z.nodes gathering ∷ others)) (stuck program context nodes world)
-
-        begins : focused program context nodes world cf ck ≡ Go (weighing (extra + (1 + n))) [] world (at program context nodes (Eval (around_all c'.checks fails y) vals) (Caller n gathering ∷ others))
-        begins =
-            eq
-            ∙ (ap how (ap (λ o. on_some (stuck program context nodes world) o (λ g. on_some (stuck program context nodes world) (slice_get program.groups g.code) (λ i. cond (nat_eq (length g.seen) i.sees) (core_machine.entered program context nodes world h.group ws g.seen gathering others i.bodies h.member) (stuck program context nodes world)))) at_group
-            ∙ (ap (λ o. on_some (stuck program context nodes world) o (λ i. cond (nat_eq (length made.seen) i.sees) (core_machine.entered program context nodes world h.group ws made.seen gathering others i.bodies h.member) (stuck program context nodes world))) r.there
-            ∙ (ap (λ t. cond t (core_machine.entered program context nodes world h.group ws made.seen gathering others r.bodies h.member) (stuck program context nodes world)) (eq-eqb (length made.seen) (length made.seen) refl)
-            ∙ (ap (λ o. on_some (stuck program context nodes world) o entry) at_body
-            ∙ ap (λ t. cond t (core_machine.go program context nodes (1 + n) world (Eval (around_all c'.checks fails y) vals) (Caller n gathering ∷ others)) (stuck program context nodes world)) (eq-eqb (length ws) (number_of_parameters ps) arguments_are)))))
-            ∙ weighs n (at program context nodes (Eval (around_all c'.checks fails y) vals) (Caller n gathering ∷ others)))
-
-        go : (o : Found Code) (o' : Found Handle) → AlikeFound known o o' → Decides program context nodes world o' (2 * weight_of_all ps ws) vals (Caller n gathering ∷ others) (check_all ps level names)
-            → T (on_stack store (entered store group env (entering n ps (shapes_list vs)) n body o) k)
-        go None None a d =
-            let x : weight_of_all ps (shapes_list vs) ≡ weight_of_all ps ws = alike.1 in
-            let z : 1 ≤ length pattern_failed = omega arith in
-            let l : live_on (Returning n ∷ k) ≡ 16 + nodes + depth_of ((d.1) ++ (Caller n gathering ∷ others)) = as_deep program.groups known context.globals nodes false no_labels less (Returning n ∷ k) ((d.1) ++ (Caller n gathering ∷ others)) (around n (d.1) (d.4)) in
-            let up : n ≤ div_ceil n 16 * 16 = (div_ceil_times n 16 (omega arith)).0 in
-            stops_in program context nodes (2 * weight_of_all ps ws) before spent (2 * (entering n ps (shapes_list vs) + length pattern_failed) + held) (levels_of_body n) (weighing (extra + (1 + n))) (weighing (1 + length pattern_failed)) world cf ck _ _ (Eval fails (d.0)) ((d.1) ++ (Caller n gathering ∷ others)) (execution.Traps pattern_failed)
-            begins (d.2 fails y) refl (omega (arith, x, z, paid, small)) refl refl (omega (arith, l, up, low))
-        go None (Some xs) a d = absurd a
-        go (Some us) None a d = absurd a
-        go (Some us) (Some xs) a d =
-            let x : weight_of_all ps (shapes_list vs) ≡ weight_of_all ps ws = alike.1 in (
-              does_then program context nodes (2 * weight_of_all ps ws) before (spent + owed k) (2 * entering n ps (shapes_list vs) + held) 0 less (weighing (extra + (1 + n))) [] known known world world cf ck _ _ (Eval y (d.0)) ((d.1) ++ (Caller n gathering ∷ others)) store
-                  (machine.Eval body (extended (values_list us) (with_group group env))) (Returning n ∷ k)
-                  begins (d.2 fails y) (omega (arith, x, paid, small)) (omega arith) ([], nothing_more known) refl worlds
-                  (AtCode false no_labels body (extended (values_list us) (with_group group env)) (Returning n ∷ k) y (d.0) ((d.1) ++ (Caller n gathering ∷ others))
-                  (coded program context nodes known false (behind c' (in_body (number_of_parameters ps) s)) body (extended (values_list us) (with_group group env)) y (d.0) (d.3) code
-                  (names_extend known context.globals s.places (with_group group env) vals (d.0) c'.bound (values_list us) xs
-                  (names_more known context.globals s.places (with_group group env) rest vals
-                  (subst (λ i. EnvironmentBelongs known context.globals s.places (with_group group env) (members h.group 0 i ++ made.seen)) (sym bodies_are)
-                  (group_names known context.globals group env h.group there group 0 env r.places made.seen r.names))
-                  (more_before ws rest)) (d.5) (d.4) (values_belong known us xs a)))
-                  (around n (d.1) (d.6))),
-              tt,
-            )
+          go : (o : Found Code) (o' : Found Handle) → AlikeFound known o o' → Decides program context nodes world o' (2 * weight_of_all ps ws) vals (Caller n gathering ∷ others) (check_all ps level names)
+              → T (on_stack store (entered store group env (entering n ps (shapes_list vs)) n body o) k)
+          go None None a d =
+              let x : weight_of_all ps (shapes_list vs) ≡ weight_of_all ps ws = alike.1 in
+              let z : 1 ≤ length pattern_failed = omega arith in
+              let l : live_on (Returning n ∷ k) ≡ 16 + nodes + depth_of ((d.1) ++ (Caller n gathering ∷ others)) = as_deep program.groups known context.globals nodes false no_labels less (Returning n ∷ k) ((d.1) ++ (Caller n gathering ∷ others)) (around n (d.1) (d.4)) in
+              let up : n ≤ div_ceil n 16 * 16 = (div_ceil_times n 16 (omega arith)).0 in
+              stops_in program context nodes (2 * weight_of_all ps ws) before spent (2 * (entering n ps (shapes_list vs) + length pattern_failed) + held) (levels_of_body n) (weighing (extra + (1 + n))) (weighing (1 + length pattern_failed)) world cf ck _ _ (Eval fails (d.0)) ((d.1) ++ (Caller n gathering ∷ others)) (execution.Traps pattern_failed)
+              begins (d.2 fails y) refl (omega (arith, x, z, paid, small)) refl refl (omega (arith, l, up, low))
+          go None (Some xs) a d = absurd a
+          go (Some us) None a d = absurd a
+          go (Some us) (Some xs) a d =
+              let x : weight_of_all ps (shapes_list vs) ≡ weight_of_all ps ws = alike.1 in (
+                does_then program context nodes (2 * weight_of_all ps ws) before (spent + owed k) (2 * entering n ps (shapes_list vs) + held) 0 less (weighing (extra + (1 + n))) [] known known world world cf ck _ _ (Eval y (d.0)) ((d.1) ++ (Caller n gathering ∷ others)) store
+                    (machine.Eval body (extended (values_list us) (with_group group env))) (Returning n ∷ k)
+                    begins (d.2 fails y) (omega (arith, x, paid, small)) (omega arith) ([], nothing_more known) refl worlds
+                    (AtCode false no_labels body (extended (values_list us) (with_group group env)) (Returning n ∷ k) y (d.0) ((d.1) ++ (Caller n gathering ∷ others))
+                    (coded program context nodes known false (behind c' (in_body (number_of_parameters ps) s)) body (extended (values_list us) (with_group group env)) y (d.0) (d.3) code
+                    (names_extend known context.globals s.places (with_group group env) vals (d.0) c'.bound (values_list us) xs
+                    (names_more known context.globals s.places (with_group group env) rest vals
+                    around_names
+                    (more_before ws rest)) (d.5) (d.4) (values_belong known us xs a)))
+                    (around n (d.1) (d.6))),
+                tt,
+              )
 
     other_code : (n : ℕ) (m : Member) (holds : Values) (group : Functions) (which : ℕ) (env : Environment) → code_in (Some (OfMember m holds)) n ≡ Some (ClosureCode group which env) → ⊥
     other_code zero m holds group which env z = let y : Some (BuiltInCode m holds) ≡ Some (ClosureCode group which env) = z in cc
@@ -237,8 +239,40 @@ module _ (program : Core) (context : Context) (nodes : ℕ) (before : Start) (he
             found : slice_get known h.group ≡ Some (OfFunctions group env) → h.member ≡ which → T (on_stack store (call_function store group env group which vs) k)
             found there same =
                 let f : (m : MadeGroup) × (slice_get world.groups h.group ≡ Some m) × FunctionsBelong program.groups known context.globals group env m = worlds.groups.each h.group (OfFunctions group env) there in
-                function_at program.groups (under (count group) (scope (f.2).places (f.2).labels (f.0).seen)) T store group env vs ws k group (f.2).bodies which (tt, tt) (f.2).code meets
-                (λ n ps body y at code m. enters group env there (f.0) (f.1) (f.2) n ps body y (subst (λ i. slice_get (f.2).bodies i ≡ Some (record { parameters = number_of_parameters ps; nodes = n; expression = around_all (on_parameters ps (under (count group) (scope (f.2).places (f.2).labels (f.0).seen))).checks fails y })) (sym same) at) code m (are_as_many ps vs) refl)
+                by_group (f.0) (f.1) (f.2)
+              where
+                by_group : (made : MadeGroup) → slice_get world.groups h.group ≡ Some made → (r : FunctionsBelong program.groups known context.globals group env made) → T (on_stack store (call_function store group env group which vs) k)
+                by_group made at_group r =
+                    let s : Scope = under (count group) (scope r.places r.labels made.seen) in
+                    let bodies_are : length r.bodies ≡ count group = as_many_bodies program.groups s group r.bodies r.code in
+                    let z : length (members h.group 0 (length r.bodies) ++ made.seen) ≡ length r.bodies + length made.seen = with_members h.group 0 (length r.bodies) made.seen in
+                    function_at program.groups s T store group env vs ws k group r.bodies which (tt, tt) r.code meets
+                    (λ n ps body y at code m. enters group env made at_group r.bodies r.there s (omega (arith, z, bodies_are))
+                    (subst (λ i. EnvironmentBelongs known context.globals s.places (with_group group env) (members h.group 0 i ++ made.seen)) (sym bodies_are) (group_names known context.globals group env h.group there group 0 env r.places made.seen r.names)) n ps body y
+                    (subst (λ i. slice_get r.bodies i ≡ Some (record { parameters = number_of_parameters ps; nodes = n; expression = around_all (on_parameters ps s).checks fails y })) (sym same) at) code m (are_as_many ps vs) refl)
+        by (Some (OfOne fns i env')) e z = alone h.member refl z
+          where
+            alone : (n : ℕ) → h.member ≡ n → code_in (Some (OfOne fns i env')) n ≡ Some (ClosureCode group which env) → T (on_stack store (call_function store group env group which vs) k)
+            alone (suc n) is z = absurd (let y : None ≡ Some (ClosureCode group which env) = z in cc)
+            alone zero is z =
+                let y : Some (ClosureCode fns i env') ≡ Some (ClosureCode group which env) = z in
+                let a : fns ≡ group = cc in
+                let b : i ≡ which = cc in
+                let c : env' ≡ env = cc in
+                found (subst (λ f. slice_get known h.group ≡ Some (OfOne f which env)) a (subst (λ j. slice_get known h.group ≡ Some (OfOne fns j env)) b (subst (λ x. slice_get known h.group ≡ Some (OfOne fns i x)) c e))) is
+              where
+                by_one : (made : MadeGroup) → slice_get world.groups h.group ≡ Some made → (r : OneBelongs program.groups known context.globals group which env made) → h.member ≡ 0 → T (on_stack store (call_function store group env group which vs) k)
+                by_one made at_group r is =
+                    let s : Scope = unseen (count group) (scope r.places r.labels made.seen) in
+                    one_at program.groups s T store group env vs ws k group which r.body (tt, tt) r.code meets
+                    (λ n ps body y at code m. enters group env made at_group (r.body ∷ []) r.there s (omega arith)
+                    (behind_group known context.globals (members h.group 0 1 ++ made.seen) env group group 0 env r.places (names_more known context.globals r.places env made.seen (members h.group 0 1 ++ made.seen) r.names (more_before (members h.group 0 1) made.seen))) n ps body y
+                    (subst (λ i. slice_get (r.body ∷ []) i ≡ Some (record { parameters = number_of_parameters ps; nodes = n; expression = around_all (on_parameters ps s).checks fails y })) (sym is) (ap (λ b. Some b) at)) code m (are_as_many ps vs) refl)
+
+                found : slice_get known h.group ≡ Some (OfOne group which env) → h.member ≡ 0 → T (on_stack store (call_function store group env group which vs) k)
+                found there is =
+                    let f : (m : MadeGroup) × (slice_get world.groups h.group ≡ Some m) × OneBelongs program.groups known context.globals group which env m = worlds.groups.each h.group (OfOne group which env) there in
+                    by_one (f.0) (f.1) (f.2) is
         by (Some (OfMember m holds)) e z = absurd (other_code h.member m holds group which env z)
 
   pub call_follows : (vs : List Value) (ws : List core_value.Value) → EachBelongs known vs ws → (h : Handle) (b : Bool) (l : Labels) (less : ℕ) (others : List Frame) → Around program context nodes world known b l less k others → spent + less ≤ held

@@ -1,5 +1,5 @@
 -- A function makes the elements of an array: the way of the machine of typed programs to its first call, and from its value to the next one.
-use Rattle.std.proofs.Common.{◌≡◌, ℕ, zero, suc, ◌+◌, ◌≤◌, Bool, List, [], ◌∷◌, ◌++◌, None, refl, arith}
+use Rattle.std.proofs.Common.{◌≡◌, ℕ, zero, suc, ◌≤◌, Bool, List, [], ◌∷◌, ◌++◌, None, refl, arith}
 use Rattle.std.specs.Prelude.{pos}
 use Rattle.mo_types.specs.declared.datum.Datum.TheVariants as part
 use Rattle.core_ir.specs.Values as core_value

@@ -18,7 +18,7 @@ use Rattle.typed_tree.specs.declared.action.Action.TheVariants as action
 use Rattle.typed_tree.specs.declared.action.Member.{Member}
 use Rattle.typed_tree.specs.declared.action.Member.TheVariants as member
 use Rattle.typed_tree.specs.Language.{Functions}
-use Rattle.mo_machine.specs.Values.{Value, Values, Made, Closure, BuiltIn, Code, ClosureCode, BuiltInCode, leaf, listed, value_of, shapes_list}
+use Rattle.mo_machine.specs.Values.{Value, Values, Made, Closure, BuiltIn, ClosureCode, BuiltInCode, leaf, listed, value_of, shapes_list}
 use Rattle.mo_machine.specs.Acts.{Store, Act}
 use Rattle.mo_machine.specs.Actions as actions
 use Rattle.mo_machine.specs.Frames as machine
@@ -29,12 +29,12 @@ use Rattle.mo_machine.specs.Jumps.{on_stack}
 use Rattle.mo_machine.specs.Members.{call_member}
 use Rattle.mo_machine.specs.Moves.{move}
 use Rattle.mo_machine.specs.Reductions.{reduces}
-use Rattle.elaboration_values.specs.Belonging.{Known, OfFunctions, OfMember, code_in, Names, Belongs, EachBelongs}
+use Rattle.elaboration_values.specs.Belonging.{Known, OfFunctions, OfOne, OfMember, code_in, Names, Belongs, EachBelongs}
 use Rattle.elaboration_steps.specs.Stacks.{Labels, no_labels, owed, alone, making_array, gathering_on, gathering_of, HeldAt, MemberBelongs, WorldBelongs, AtValue, Around, InFunction, InGathering, GatheringBelongs, Coming, AtNext, AtAll, Gathered}
 use Rattle.elaboration_steps.specs.Follows.{start, MoveFollows, Suits, Acts, TrapsInBody}
 use Rattle.elaboration_steps.proofs.Entering.{call_by_follows}
 use Rattle.elaboration_steps.proofs.MemberEntries.{alone_enters}
-use Rattle.elaboration_steps.proofs.MemberCalls.{first_member}
+use Rattle.elaboration_steps.proofs.MemberCalls.{first_member, no_member}
 use Rattle.elaboration_steps.proofs.Members.{held_none, alone_holds_none}
 use Rattle.elaboration_steps.proofs.Paths.{nothing_more, waits_in, does}
 use Rattle.elaboration_steps.proofs.Rows.{alone_row, member_acts}
@@ -129,6 +129,7 @@ module _ (program : Core) (context : Context) (nodes : ℕ) (held : ℕ) (known 
           by : (o : Option Known) → slice_get known i.group ≡ o → code_in o i.member ≡ Some (BuiltInCode m holds) → T (call_member store m (listed holds) (place ∷ []))
           by None e z = absurd (let y : None ≡ Some (BuiltInCode m holds) = z in cc)
           by (Some (OfFunctions fns env)) e z = absurd (let y : Some (ClosureCode fns i.member env) ≡ Some (BuiltInCode m holds) = z in cc)
+          by (Some (OfOne fns j env)) e z = absurd (no_member i.member fns j env m holds z)
           by (Some (OfMember n inner)) e z =
               let c : (i.member ≡ 0) × (BuiltInCode n inner ≡ BuiltInCode m holds) = first_member i.member n inner (BuiltInCode m holds) z in
               let x : BuiltInCode n inner ≡ BuiltInCode m holds = c.1 in

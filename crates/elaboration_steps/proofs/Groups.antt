@@ -1,5 +1,6 @@
 -- Groups of functions that are made: the names of their functions, and what the world has of them.
-use Rattle.std.proofs.Common.{◌≡◌, ◌⊎◌, inl, inr, ℕ, zero, suc, ◌+◌, List, [], ◌∷◌, ◌++◌, length, Option, Some, None, slice_get, refl, sym, ap, ◌∙◌, subst, arith}
+use Rattle.std.specs.Prelude.{replicate}
+use Rattle.std.proofs.Common.{◌≡◌, ◌⊎◌, inl, inr, ℕ, zero, suc, ◌+◌, ◌≤◌, List, [], ◌∷◌, ◌++◌, length, Option, Some, None, slice_get, refl, sym, ap, ◌∙◌, subst, arith}
 use Rattle.mo_values.specs.Shapes.{Function}
 use Rattle.core_ir.specs.Programs.{Group}
 use Rattle.core_ir.specs.Values as core_value
@@ -12,13 +13,13 @@ use Rattle.typed_tree.specs.Substitution.{count, group_nodes}
 use Rattle.mo_machine.specs.Values.{Value, Closure, AValue}
 use Rattle.mo_machine.specs.Environments.{Environment, closures}
 use Rattle.mo_machine.specs.Acts.{Store}
-use Rattle.elaboration.specs.Scopes.{Place, Local, Scope, places_from}
+use Rattle.elaboration.specs.Scopes.{Place, Local, Nowhere, Scope, places_from}
 use Rattle.elaboration.specs.Meeting.{Reads}
 use Rattle.elaboration.proofs.Coming.{reads_new, reads_more}
-use Rattle.elaboration_forms.specs.Elaborates.{ElaboratesFunctions}
-use Rattle.elaboration_values.specs.Belonging.{Known, OfFunctions, OfMember, code_in, Belongs, StandsAt, EnvironmentBelongs}
+use Rattle.elaboration_forms.specs.Elaborates.{one_of, ElaboratesFunctions, ElaboratesOne}
+use Rattle.elaboration_values.specs.Belonging.{Known, OfFunctions, OfOne, OfMember, code_in, Belongs, StandsAt, EnvironmentBelongs}
 use Rattle.elaboration_steps.specs.Stacks.{GroupBelongs, GroupsBelong, WorldBelongs}
-use Rattle.elaboration_steps.proofs.Growth.{each_stays, functions_stay, member_stays}
+use Rattle.elaboration_steps.proofs.Growth.{each_stays, functions_stay, one_stays, member_stays}
 use Rattle.elaboration_steps.proofs.Matching.{names_more}
 
 -- ---- lists
@@ -91,6 +92,45 @@ module _ (known : List Known) (globals : List core_value.Value) (group : Functio
           (w, subst (λ n. Reads (w ∷ inner) n w) (with_members g (suc i) (count fns) vals) (reads_new inner w), closure_belongs i)
       each others (suc x) u e = names_more known globals _ _ inner (w ∷ inner) others (reads_more inner w) x u e
 
+-- behind a group that has no names
+module _ (known : List Known) (globals vals : List core_value.Value) where
+  pub behind_group : (env0 : Environment) (group fns : Functions) (n : ℕ) (env : Environment) (places : List Place) → EnvironmentBelongs known globals places env vals → EnvironmentBelongs known globals (replicate (count fns) Nowhere ++ places) (closures env0 group fns n env) vals
+  behind_group env0 group NoFunction n env places h x v e = h x v e
+  behind_group env0 group (AFunction how nodes ps body fns) n env places h zero v e = tt
+  behind_group env0 group (AFunction how nodes ps body fns) n env places h (suc x) v e = behind_group env0 group fns (suc n) env places h x v e
+
+-- of a group one function is made alone: its name is the only one that the group has
+module _ (known : List Known) (globals : List core_value.Value) (group : Functions) (which : ℕ) (env0 : Environment) (g : ℕ) (here : slice_get known g ≡ Some (OfOne group which env0)) where
+  abbrev alone : core_value.Value
+  alone = Function (record { group = g; member = 0 })
+
+  pub one_name : (fns : Functions) (i j : ℕ) → j + i ≡ which → (env : Environment) (places : List Place) (vals : List core_value.Value) → EnvironmentBelongs known globals places env vals
+      → EnvironmentBelongs known globals (one_of (length vals) i (count fns) ++ places) (closures env0 group fns j env) (alone ∷ vals)
+  one_name NoFunction i j is env places vals h = names_more known globals places env vals (alone ∷ vals) h (reads_more vals alone)
+  one_name (AFunction how nodes ps body fns) zero j is env places vals h = each (behind_group known globals (alone ∷ vals) env0 group fns (suc j) env places (names_more known globals places env vals (alone ∷ vals) h (reads_more vals alone)))
+    where
+      it : j ≡ which
+      it = let z : j + 0 ≡ j = omega arith in sym z ∙ is
+
+      each : EnvironmentBelongs known globals (replicate (count fns) Nowhere ++ places) (closures env0 group fns (suc j) env) (alone ∷ vals)
+          → EnvironmentBelongs known globals (Local (length vals) ∷ (replicate (count fns) Nowhere ++ places)) (AValue (Closure group j env0) (closures env0 group fns (suc j) env)) (alone ∷ vals)
+      each others zero u e =
+          subst (λ u. StandsAt known globals (alone ∷ vals) (Local (length vals)) u) (value_of_some (Closure group j env0) u e)
+          (alone, reads_new vals alone, subst (λ j. Belongs known (Closure group j env0) alone) (sym it) (ap (λ o. code_in o 0) here))
+      each others (suc x) u e = others x u e
+  one_name (AFunction how nodes ps body fns) (suc i) j is env places vals h = each (one_name fns i (suc j) (let z : j + suc i ≡ suc j + i = omega arith in sym z ∙ is) env places vals h)
+    where
+      each : EnvironmentBelongs known globals (one_of (length vals) i (count fns) ++ places) (closures env0 group fns (suc j) env) (alone ∷ vals)
+          → EnvironmentBelongs known globals (Nowhere ∷ (one_of (length vals) i (count fns) ++ places)) (AValue (Closure group j env0) (closures env0 group fns (suc j) env)) (alone ∷ vals)
+      each others zero u e = tt
+      each others (suc x) u e = others x u e
+
+-- its nodes are some of those of the group
+pub one_lighter : (table : List (Group Body)) (s : Scope) (fns : Functions) (i : ℕ) (b : Body) → ElaboratesOne table s fns i b → b.nodes ≤ group_nodes fns
+one_lighter table s NoFunction i b r = absurd r
+one_lighter table s (AFunction how nodes ps body fns) zero b r = let z : b.nodes ≡ nodes = ap (λ (b : Body). b.nodes) (r.2) in omega (arith, z)
+one_lighter table s (AFunction how nodes ps body fns) (suc i) b r = let z : b.nodes ≤ group_nodes fns = one_lighter table s fns i b r in omega (arith, z)
+
 -- ---- the world
 
 module _ (table : List (Group Body)) (known : List Known) (globals : List core_value.Value) (k : Known) where
@@ -99,6 +139,7 @@ module _ (table : List (Group Body)) (known : List Known) (globals : List core_v
 
   belongs_still : (other : Known) (made : MadeGroup) → GroupBelongs table known globals other made → GroupBelongs table grown globals other made
   belongs_still (OfFunctions fns env) made r = functions_stay table known (k ∷ []) globals fns env made r
+  belongs_still (OfOne fns i env) made r = one_stays table known (k ∷ []) globals fns i env made r
   belongs_still (OfMember m holds) made r = member_stays table known (k ∷ []) globals m holds made r
 
   groups_grow : (made : List MadeGroup) (m : MadeGroup) → GroupsBelong table known globals made → GroupBelongs table grown globals k m → GroupsBelong table grown globals (made ++ m ∷ [])

@@ -15,7 +15,7 @@ use Rattle.mo_machine.specs.Frames.{Stack}
 use Rattle.elaboration.specs.Scopes.{Place, Local, Own, Nowhere, place_or_nowhere}
 use Rattle.elaboration_values.specs.Belonging.{Known, Belongs, EachBelongs, StandsAt, EnvironmentBelongs}
 use Rattle.elaboration_values.proofs.Belong.{stay}
-use Rattle.elaboration_steps.specs.Stacks.{Labels, Coded, CodedAll, CodedBeside, CodedPattern, CodedTurn, CodedCases, HeldAt, FunctionsBelong, MemberBelongs, StackBelongs, Bottom, InFunction, InGathering, InOperands, InMaking, InCalling, InHolding, InChoosing, InLet, InSwitch, InLabel, InTesting, InTurning, InRepeating, InRetesting, InTry, InUpdating, InGoing, InTurn, InBody, InBranch, InCase}
+use Rattle.elaboration_steps.specs.Stacks.{Labels, Coded, CodedAll, CodedBeside, CodedPattern, CodedTurn, CodedCases, HeldAt, FunctionsBelong, MemberBelongs, StackBelongs, Bottom, InFunction, InGathering, InOperands, InMaking, InCalling, InHolding, InChoosing, InLet, InSwitch, InLabel, InTesting, InTurning, InRepeating, InRetesting, InTry, InUpdating, InGoing, InTurn, InBody, InBranch, InCase, InEndless, OneBelongs}
 
 module _ (table : List (Group Body)) (known more : List Known) (globals : List core_value.Value) where
   abbrev grown : List Known
@@ -59,6 +59,9 @@ module _ (table : List (Group Body)) (known more : List Known) (globals : List c
   pub functions_stay : (fns : Functions) (env : Environment) (made : MadeGroup) → FunctionsBelong table known globals fns env made → FunctionsBelong table grown globals fns env made
   functions_stay fns env made r = record { places = r.places; labels = r.labels; bodies = r.bodies; there = r.there; code = r.code; names = names_stay r.places env made.seen r.names }
 
+  pub one_stays : (fns : Functions) (i : ℕ) (env : Environment) (made : MadeGroup) → OneBelongs table known globals fns i env made → OneBelongs table grown globals fns i env made
+  one_stays fns i env made r = record { places = r.places; labels = r.labels; body = r.body; there = r.there; code = r.code; names = names_stay r.places env made.seen r.names }
+
   held_stays : (vals : List core_value.Value) (levels : List ℕ) (vs : List Value) → HeldAt known vals levels vs → HeldAt grown vals levels vs
   held_stays vals [] [] a = tt
   held_stays vals [] (v ∷ vs) a = absurd a
@@ -86,9 +89,10 @@ module _ (table : List (Group Body)) (known more : List Known) (globals : List c
     stack_stays b l held k ck (InSwitch x m h cs env j c vals cj q r) = InSwitch x m h cs env j c vals cj (cases_stay x m cs env c vals q) (stack_stays x m h j cj r)
     stack_stays b l held k ck (InLabel x m h j cj r) = InLabel x m h j cj (stack_stays x m h j cj r)
     stack_stays b l held k ck (InTesting x m h y z env j c d vals cj p q r) =
-        InTesting x m h y z env j c d vals cj (code_stays x _ y env c vals p) (code_stays x _ z env d vals q) (stack_stays x m h j cj r)
+        InTesting x m h y z env j c d vals cj (code_stays x _ y env c vals p) (beside_stays x _ z env d vals q) (stack_stays x m h j cj r)
     stack_stays b l held k ck (InTurning x m h y z env j c d vals cj p q r) =
-        InTurning x m h y z env j c d vals cj (code_stays x _ y env c vals p) (code_stays x _ z env d vals q) (stack_stays x m h j cj r)
+        InTurning x m h y z env j c d vals cj (code_stays x _ y env c vals p) (beside_stays x _ z env d vals q) (stack_stays x m h j cj r)
+    stack_stays b l held k ck (InEndless x m h y env j d vals cj q r) = InEndless x m h y env j d vals cj (beside_stays x _ y env d vals q) (stack_stays x m h j cj r)
     stack_stays b l held k ck (InRepeating x m h y z env j d c vals cj p q r) =
         InRepeating x m h y z env j d c vals cj (code_stays x _ y env d vals p) (beside_stays x _ z env c vals q) (stack_stays x m h j cj r)
     stack_stays b l held k ck (InRetesting x m h y z env j d c v vals cj p q r) =

@@ -6,7 +6,7 @@ use Rattle.core_ir.specs.Expressions.{Body}
 use Rattle.core_ir.specs.CoreMachine as core_machine
 use Rattle.mo_machine.specs.Frames.{Stack}
 use Rattle.elaboration_values.specs.Belonging.{Known}
-use Rattle.elaboration_steps.specs.Stacks.{Labels, no_labels, with_label, with_own_label, StackBelongs, Bottom, InFunction, InGathering, InOperands, InMaking, InCalling, InHolding, InChoosing, InLet, InSwitch, InLabel, InTesting, InTurning, InRepeating, InRetesting, InTry, InUpdating, InGoing, InTurn, InBody, InBranch, InCase}
+use Rattle.elaboration_steps.specs.Stacks.{Labels, no_labels, with_label, with_own_label, StackBelongs, Bottom, InFunction, InGathering, InOperands, InMaking, InCalling, InHolding, InChoosing, InLet, InSwitch, InLabel, InTesting, InTurning, InRepeating, InRetesting, InTry, InUpdating, InGoing, InTurn, InBody, InBranch, InCase, InEndless}
 
 abbrev pub Within : Labels → Type 0
 Within l = (i : ℕ) (a : ℕ) → slice_get l.exits i ≡ Some a → a < l.count
@@ -40,6 +40,7 @@ module _ (table : List (Group Body)) (known : List Known) (globals : List Value)
   within b l held k ck (InLabel x m h j cj r) = label_within m (within x m h j cj r)
   within b l held k ck (InTesting x m h y z env j c d vals cj p q r) = own_within m (within x m h j cj r)
   within b l held k ck (InTurning x m h y z env j c d vals cj p q r) = own_within m (within x m h j cj r)
+  within b l held k ck (InEndless x m h y env j d vals cj q r) = within x m h j cj r
   within b l held k ck (InRepeating x m h y z env j c d vals cj p q r) = own_within m (within x m h j cj r)
   within b l held k ck (InRetesting x m h y z env j c d v vals cj p q r) = own_within m (within x m h j cj r)
   within b l held k ck (InTry m h p e env j c vals cj q r) = within true m h j cj r

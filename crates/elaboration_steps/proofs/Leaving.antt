@@ -19,7 +19,7 @@ use Rattle.mo_machine.specs.Jumps.{leave}
 use Rattle.elaboration.specs.Scopes as scopes
 use Rattle.elaboration.specs.Meeting.{Joins, There}
 use Rattle.elaboration_values.specs.Belonging.{Known, Belongs}
-use Rattle.elaboration_steps.specs.Stacks.{Passed, Labels, goal_at, turn_with, WorldBelongs, AtAction, AtValue, AtEnd, Around, Bottom, InFunction, InGathering, InOperands, InMaking, InCalling, InHolding, InChoosing, InLet, InSwitch, InLabel, InTesting, InTurning, InRepeating, InRetesting, InTry, InUpdating, InGoing, InTurn, InBody, InBranch, InCase, gathering_on, gathering_of, Gathered}
+use Rattle.elaboration_steps.specs.Stacks.{Passed, Labels, goal_at, turn_with, WorldBelongs, AtAction, AtValue, AtEnd, Around, Bottom, InFunction, InGathering, InOperands, InMaking, InCalling, InHolding, InChoosing, InLet, InSwitch, InLabel, InTesting, InTurning, InRepeating, InRetesting, InTry, InUpdating, InGoing, InTurn, InBody, InBranch, InCase, gathering_on, gathering_of, Gathered, InEndless, truth}
 use Rattle.elaboration_steps.specs.Follows.{Start, owed, Acts}
 use Rattle.elaboration_steps.proofs.Labels.{within}
 use Rattle.elaboration_steps.proofs.Levels.{joins_level, skips_level}
@@ -194,10 +194,12 @@ module _ (program : Core) (context : Context) (nodes : ℕ) (before : Start) (he
       subst A (sym (passes store v j (Updating o e env) tt n)) (leaves x l' h n j cj r (eq ∙ past_args program context nodes world w (slice_get l'.exits n) l'.count _ _ _ vals cj) le q (omega (arith, low)) deep)
   leaves b l less n k ck (InTesting x l' h y z env j c d vals cj p i r) eq le q low deep =
       subst A (sym (passes store v j (Testing y z env) tt n))
-      (leaves x l' h n j cj r (eq ∙ (past_args program context nodes world w (slice_get l'.exits n) (suc l'.count) _ _ _ vals _ ∙ (past_loop program context nodes world w (slice_get l'.exits n) (suc l'.count) _ vals _ ∙ past_label program context nodes world w (slice_get l'.exits n) l'.count cj (within program.groups known context.globals nodes x l' h j cj r n)))) le q (omega (arith, low)) deep)
+      (leaves x l' h n j cj r (eq ∙ (past_args program context nodes world w (slice_get l'.exits n) (suc l'.count) _ _ _ vals _ ∙ (past_args program context nodes world w (slice_get l'.exits n) (suc l'.count) _ _ _ vals _ ∙ (past_loop program context nodes world w (slice_get l'.exits n) (suc l'.count) _ vals _ ∙ past_label program context nodes world w (slice_get l'.exits n) l'.count cj (within program.groups known context.globals nodes x l' h j cj r n))))) le q (omega (arith, low)) deep)
   leaves b l less n k ck (InTurning x l' h y z env j c d vals cj p i r) eq le q low deep =
       subst A (sym (passes store v j (Turning y z env) tt n))
-      (leaves x l' h n j cj r (eq ∙ (past_join program context nodes world w (slice_get l'.exits n) (suc l'.count) _ ∙ (past_loop program context nodes world w (slice_get l'.exits n) (suc l'.count) _ vals _ ∙ past_label program context nodes world w (slice_get l'.exits n) l'.count cj (within program.groups known context.globals nodes x l' h j cj r n)))) le q (omega (arith, low)) deep)
+      (leaves x l' h n j cj r (eq ∙ (past_loop program context nodes world w (slice_get l'.exits n) (suc l'.count) _ vals _ ∙ past_label program context nodes world w (slice_get l'.exits n) l'.count cj (within program.groups known context.globals nodes x l' h j cj r n))) le q (omega (arith, low)) deep)
+  leaves b l less n k ck (InEndless x l' h y env j d vals cj i r) eq le q low deep =
+      subst A (sym (passes store v j (Turning truth y env) tt n)) (leaves x l' h n j cj r (eq ∙ past_loop program context nodes world w (slice_get l'.exits n) l'.count _ vals cj) le q (omega (arith, low)) deep)
   leaves b l less n k ck (InRepeating x l' h y z env j d c vals cj p i r) eq le q low deep =
       subst A (sym (passes store v j (Repeating y z env) tt n))
       (leaves x l' h n j cj r (eq ∙ (past_args program context nodes world w (slice_get l'.exits n) (suc l'.count) _ _ _ vals _ ∙ (past_loop program context nodes world w (slice_get l'.exits n) (suc l'.count) _ vals _ ∙ past_label program context nodes world w (slice_get l'.exits n) l'.count cj (within program.groups known context.globals nodes x l' h j cj r n)))) le q (omega (arith, low)) deep)
@@ -208,7 +210,7 @@ module _ (program : Core) (context : Context) (nodes : ℕ) (before : Start) (he
       subst A (sym (passes store v j (Going p e env) tt n)) (leaves x l' h n j cj r (eq ∙ past_args program context nodes world w (slice_get l'.exits n) l'.count _ _ _ vals cj) le q (omega (arith, low)) deep)
   leaves b l less n k ck (InTurn x l' h p e env u j c z vals cj i d r) eq le q low deep =
       subst A (sym (passes store v (Stepping p u e env ∷ j) (Switching _ env) tt n ∙ passes store v j (Stepping p u e env) tt n))
-      (leaves x l' h n j cj r (eq ∙ (past_args program context nodes world w (slice_get l'.exits n) (suc l'.count) _ _ _ (z ∷ vals) _ ∙ (past_loop program context nodes world w (slice_get l'.exits n) (suc l'.count) _ (z ∷ vals) _ ∙ past_label program context nodes world w (slice_get l'.exits n) l'.count cj (within program.groups known context.globals nodes x l' h j cj r n)))) le q (omega (arith, low)) deep)
+      (leaves x l' h n j cj r (eq ∙ (past_args program context nodes world w (slice_get l'.exits n) (suc l'.count) _ _ _ (z ∷ vals) _ ∙ (past_args program context nodes world w (slice_get l'.exits n) (suc l'.count) _ _ _ (z ∷ vals) _ ∙ (past_loop program context nodes world w (slice_get l'.exits n) (suc l'.count) _ (z ∷ vals) _ ∙ past_label program context nodes world w (slice_get l'.exits n) l'.count cj (within program.groups known context.globals nodes x l' h j cj r n))))) le q (omega (arith, low)) deep)
   leaves b l less n k ck (InBody x l' h p e env inner u j c z vals js cj a i d r) eq le q low deep =
       subst A (sym (passes store v (Joining ∷ Stepping p u e env ∷ j) (Switching _ inner) tt n ∙ (passes store v (Stepping p u e env ∷ j) Joining tt n ∙ passes store v j (Stepping p u e env) tt n)))
       (leaves x l' h n j cj r (eq ∙ (past_joins program context nodes world w (slice_get l'.exits n) (suc l'.count) js _ a ∙ (past_loop program context nodes world w (slice_get l'.exits n) (suc l'.count) _ (z ∷ vals) _ ∙ past_label program context nodes world w (slice_get l'.exits n) l'.count cj (within program.groups known context.globals nodes x l' h j cj r n)))) le q (omega (arith, low)) (deep ∙ joins_level js (Looping (turn_with c) (z ∷ vals) ∷ core_machine.Labelled ∷ cj) a))

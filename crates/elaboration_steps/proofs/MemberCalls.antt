@@ -30,6 +30,7 @@ use Rattle.typed_tree.specs.declared.action.Action.TheVariants as action
 use Rattle.typed_tree.specs.declared.action.Member.{Member}
 use Rattle.typed_tree.specs.declared.action.Member.TheVariants as member
 use Rattle.typed_tree.specs.Language as source
+use Rattle.typed_tree.specs.Language.{Functions}
 use Rattle.mo_meaning.specs.Members.{number}
 use Rattle.mo_meaning.specs.Places as places
 use Rattle.mo_machine.specs.Values as machine_value
@@ -48,7 +49,7 @@ use Rattle.elaboration.specs.Members.{Elements, Places, Characters, Steps, form_
 use Rattle.elaboration.specs.Meeting.{Reads, Comes, There}
 use Rattle.elaboration.proofs.Coming.{step, seq, on_one, reads_more, name_gives}
 use Rattle.elaboration_forms.specs.Elaborates.{HasGroups, Elaborates}
-use Rattle.elaboration_values.specs.Belonging.{Known, OfFunctions, OfMember, code_in, Names, Belongs, EachBelongs, EnvironmentBelongs}
+use Rattle.elaboration_values.specs.Belonging.{Known, OfFunctions, OfOne, OfMember, code_in, Names, Belongs, EachBelongs, EnvironmentBelongs}
 use Rattle.elaboration_steps.specs.Stacks.{Labels, no_labels, scope, IsGoal, alone, goal_at, HeldAt, MemberBelongs, WorldBelongs, StateBelongs, Standing, making_array, AtCode, AtValue, AtRaising, behind_place, Later, Around, InFunction, InOperands, InHolding, Gathered}
 use Rattle.elaboration_steps.specs.Follows.{Start, owed, Suits, Acts}
 use Rattle.elaboration_steps.proofs.Depth.{as_deep}
@@ -67,6 +68,10 @@ some_or d (Some v) = v
 
 some_value : (u v : Value) → Some u ≡ Some v → u ≡ v
 some_value u v e = ap (some_or u) e
+
+pub no_member : (n : ℕ) (fns : Functions) (i : ℕ) (env : Environment) (m : Member) (holds : Values) → code_in (Some (OfOne fns i env)) n ≡ Some (BuiltInCode m holds) → ⊥
+no_member zero fns i env m holds z = let y : Some (machine_value.ClosureCode fns i env) ≡ Some (BuiltInCode m holds) = z in cc
+no_member (suc n) fns i env m holds z = let y : None ≡ Some (BuiltInCode m holds) = z in cc
 
 pub first_member : (n : ℕ) (m : Member) (holds : Values) (code : Code) → code_in (Some (OfMember m holds)) n ≡ Some code → (n ≡ 0) × (BuiltInCode m holds ≡ code)
 first_member zero m holds code z = (refl, let y : Some (BuiltInCode m holds) ≡ Some code = z in cc)
@@ -510,6 +515,7 @@ module _ (program : Core) (context : Context) (nodes : ℕ) (before : Start) (su
         by : (o : Option Known) → slice_get known h.group ≡ o → code_in o h.member ≡ Some (BuiltInCode m holds) → T (call_member store m (listed holds) vs)
         by None e z = absurd (let y : None ≡ Some (BuiltInCode m holds) = z in cc)
         by (Some (OfFunctions fns env)) e z = absurd (let y : Some (machine_value.ClosureCode fns h.member env) ≡ Some (BuiltInCode m holds) = z in cc)
+        by (Some (OfOne fns j env)) e z = absurd (no_member h.member fns j env m holds z)
         by (Some (OfMember n inside)) e z =
             let c : (h.member ≡ 0) × (BuiltInCode n inside ≡ BuiltInCode m holds) = first_member h.member n inside (BuiltInCode m holds) z in
             let x : BuiltInCode n inside ≡ BuiltInCode m holds = c.1 in

@@ -36,7 +36,7 @@ use Rattle.elaboration.specs.Meeting.{There}
 use Rattle.elaboration.proofs.Coming.{assoc, pop, step}
 use Rattle.elaboration_forms.specs.Elaborates.{IsPlace, Elaborates, ElaboratesAll, ElaboratesNames, ElaboratesCases, HasGroups}
 use Rattle.elaboration_values.specs.Belonging.{Known, Belongs, EachBelongs, StandsAt, EnvironmentBelongs}
-use Rattle.elaboration_steps.specs.Stacks.{Labels, labels_of, with_label, with_own_label, scope, goal_at, IsGoal, row_of, update_with, turn_with, body_cases, joinings, Passing, Written, Arrived, Coded, CodedAll, with_operands, Calling, WorldBelongs, StateBelongs, AtCode, AtWhile, AtRepeat, AtAction, AtValue, AtEnd, AtBody, AtTurned, AtGoing, AtLeft, AtCallee, AtMaking, AtMade, AtApplied, AtInner, AtBack, AtFunction, Later, LaterBy, AtRaising, AtWriting, AtWritten, Around, Bottom, InFunction, InGathering, InOperands, InMaking, InCalling, InHolding, InChoosing, InLet, InSwitch, InLabel, InTesting, InTurning, InRepeating, InRetesting, InTry, InUpdating, InGoing, InTurn, InBody, InBranch, InCase}
+use Rattle.elaboration_steps.specs.Stacks.{Labels, labels_of, with_label, with_own_label, scope, goal_at, IsGoal, row_of, update_with, turn_with, body_cases, joinings, Passing, Written, Arrived, Coded, CodedAll, with_operands, Calling, WorldBelongs, StateBelongs, AtCode, AtWhile, AtRepeat, AtAction, AtValue, AtEnd, AtBody, AtTurned, AtGoing, AtLeft, AtCallee, AtMaking, AtMade, AtApplied, AtInner, AtBack, AtFunction, Later, LaterBy, AtRaising, AtWriting, AtWritten, Around, Bottom, InFunction, InGathering, InOperands, InMaking, InCalling, InHolding, InChoosing, InLet, InSwitch, InLabel, InTesting, InTurning, InRepeating, InRetesting, InTry, InUpdating, InGoing, InTurn, InBody, InBranch, InCase, InEndless, AtEndless, AtTruth, AtTrue}
 use Rattle.elaboration_steps.specs.Follows.{start, further, owed, MoveFollows}
 use Rattle.elaboration_steps.proofs.Rows.{some_action}
 use Rattle.elaboration_steps.proofs.Leaving.{past_skips}
@@ -395,6 +395,7 @@ module _ (program : Core) (context : Context) (nodes : ℕ) (held : ℕ) (known 
   passes_follow b l v w k ck value (InLabel c m h j cj r) = tt
   passes_follow b l v w k ck value (InTesting x m h y z env j c d vals cj p q r) = tt
   passes_follow b l v w k ck value (InTurning x m h y z env j c d vals cj p q r) = tt
+  passes_follow b l v w k ck value (InEndless x m h y env j d vals cj q r) = tt
   passes_follow b l v w k ck value (InRepeating x m h y z env j d c vals cj p q r) = tt
   passes_follow b l v w k ck value (InRetesting x m h y z env j d c u vals cj p q r) = tt
   passes_follow b l v w k ck value (InTry m h p e env j c vals cj d r) = tt
@@ -474,6 +475,10 @@ module _ (program : Core) (context : Context) (nodes : ℕ) (held : ℕ) (known 
   pub moves_follow : (f : machine.Focus) (k : Stack) (cf : Focus) (ck : List Frame) → StateBelongs program context nodes world known held f k cf ck → M f k cf ck (move f k)
   moves_follow f k cf ck (AtCode b l e env j c vals cj code around) = looks_follow b l env j vals cj around code.places code.names e c code.code
   moves_follow f k cf ck (AtWhile b l x y env j c d vals cj p q r) = tt
+  moves_follow f k cf ck (AtEndless b l y env j d vals cj q r) = tt
+  moves_follow f k cf ck (AtTruth b l y env j d vals cj q r) =
+      steps program context nodes 0 (start f k) (owed k) held 0 held known world cf ck (Give shape.unit) ck store (machine.Give (leaf (part.Flag true))) k refl refl (omega arith) worlds (AtTrue b l y env j d vals cj q r)
+  moves_follow f k cf ck (AtTrue b l y env j d vals cj q r) = tt
   moves_follow f k cf ck (AtRepeat b l y x env j d c vals cj p q r) = tt
   moves_follow f k cf ck (AtAction a vs j g cj r) = tt
   moves_follow f k cf ck (AtValue b l v w j cj value around) = passes_follow b l v w j cj value around

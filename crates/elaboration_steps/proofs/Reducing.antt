@@ -1,9 +1,10 @@
 -- Each reduction of the machine of typed programs is followed by Core.
-use Rattle.std.proofs.Common.{◌≡◌, ℕ, zero, suc, ◌+◌, ◌*◌, ◌≤◌, Bool, true, false, List, [], ◌∷◌, ◌++◌, length, Some, None, slice_get, refl, sym, ap, subst, arith}
+use Rattle.std.proofs.Common.{◌≡◌, ℕ, zero, suc, ◌+◌, ◌*◌, ◌≤◌, Bool, true, false, cond, List, [], ◌∷◌, ◌++◌, length, Some, None, slice_get, refl, sym, ap, subst, arith, inl, inr}
 use Rattle.mo_num.specs.declared.kind.Kind.TheVariants as kind
+use Rattle.mo_types.specs.declared.datum.Datum.TheVariants as part
 use Rattle.mo_values.specs.declared.operation.Operation.TheVariants as op
 use Rattle.mo_values.specs.Costs.{weighing}
-use Rattle.mo_values.specs.Shapes.{Function, unit}
+use Rattle.mo_values.specs.Shapes.{Leaf, Function, unit}
 use Rattle.core_ir.specs.declared.primitive.Primitive.TheVariants as primitive
 use Rattle.core_ir.specs.Choices.{on_some}
 use Rattle.core_ir.specs.Values as core_value
@@ -27,27 +28,27 @@ use Rattle.mo_machine.specs.Values as machine_value
 use Rattle.mo_machine.specs.Environments.{Environment, with_group}
 use Rattle.mo_machine.specs.Acts.{Store, Act, goes}
 use Rattle.mo_machine.specs.Frames as machine
-use Rattle.mo_machine.specs.Frames.{Operands, Returning, Testing, Repeating, Going, Stepping, Stack, Ready}
+use Rattle.mo_machine.specs.Frames.{Operands, Returning, Testing, Repeating, Going, Stepping, Stack, Ready, Turning}
 use Rattle.mo_machine.specs.Jumps.{on_stack}
 use Rattle.mo_machine.specs.Reductions.{reduces}
-use Rattle.elaboration.specs.Scopes.{Place, under, nothing}
-use Rattle.elaboration.specs.Elaboration.{break_with, if_true, next_of}
+use Rattle.elaboration.specs.Scopes.{Place, under, nothing, beside, inside}
+use Rattle.elaboration.specs.Elaboration.{break_with, if_true, next_of, is_true, loop_scope, loop_of, tested_loop, element_of}
 use Rattle.elaboration.specs.Members.{form_of, number_of}
 use Rattle.elaboration.specs.Meeting.{There}
 use Rattle.elaboration.proofs.Coming.{step}
-use Rattle.elaboration_forms.specs.Elaborates.{Elaborates, ElaboratesFunctions}
-use Rattle.elaboration_values.specs.Belonging.{Known, OfFunctions, OfMember, code_in, Belongs, EachBelongs, EnvironmentBelongs}
-use Rattle.elaboration_steps.specs.Stacks.{Labels, with_own_label, row_of, spare, scope, while_of, repeat_of, turn_with, Passing, Written, Arrived, Coded, CodedBeside, CodedPattern, WorldBelongs, StateBelongs, AtCode, AtWhile, AtRepeat, AtAction, AtValue, AtEnd, AtBody, AtTurned, AtGoing, AtLeft, AtCallee, AtMaking, AtMade, AtApplied, AtInner, AtBack, AtFunction, Later, LaterBy, AtRaising, AtWriting, AtWritten, HeldAt, Holding, Acting, Calling, Applied, Around, InTesting, InRepeating}
+use Rattle.elaboration_forms.specs.Elaborates.{Elaborates, ElaboratesFunctions, unseen, only, ElaboratesOne}
+use Rattle.elaboration_values.specs.Belonging.{Known, OfFunctions, OfMember, code_in, Belongs, EachBelongs, EnvironmentBelongs, OfOne}
+use Rattle.elaboration_steps.specs.Stacks.{Labels, with_own_label, row_of, spare, scope, while_of, repeat_of, turn_with, Passing, Written, Arrived, Coded, CodedBeside, CodedPattern, WorldBelongs, StateBelongs, AtCode, AtWhile, AtRepeat, AtAction, AtValue, AtEnd, AtBody, AtTurned, AtGoing, AtLeft, AtCallee, AtMaking, AtMade, AtApplied, AtInner, AtBack, AtFunction, Later, LaterBy, AtRaising, AtWriting, AtWritten, HeldAt, Holding, Acting, Calling, Applied, Around, InTesting, InRepeating, AtEndless, AtTruth, AtTrue, InEndless, truth, endless_of}
 use Rattle.elaboration_steps.specs.Follows.{start, further, owed, Suits, Acts}
 use Rattle.elaboration_steps.proofs.Acting.{act_follows, inner_follows}
 use Rattle.elaboration_steps.proofs.Characters.{raises, writes, gives_character}
-use Rattle.elaboration_steps.proofs.Groups.{last_stands, with_members, as_many_bodies, same_nodes, group_names, world_grows}
+use Rattle.elaboration_steps.proofs.Groups.{last_stands, with_members, as_many_bodies, same_nodes, group_names, one_name, one_lighter, world_grows}
 use Rattle.elaboration_steps.proofs.Growth.{names_stay, member_stays, stack_stays}
 use Rattle.elaboration_steps.proofs.Matching.{coded}
 use Rattle.elaboration_steps.proofs.Members.{own_there}
 use Rattle.elaboration_steps.proofs.Paths.{waits, steps, does, does_then, acts_ahead, acts_behind}
 use Rattle.elaboration_steps.proofs.Rows.{some_action, member_acts}
-use Rattle.elaboration_steps.proofs.Taking.{turn_stack, takes_follow, going_follows}
+use Rattle.elaboration_steps.proofs.Taking.{turn_stack, takes_follow, going_follows, beside_code, element_stack}
 
 ready : (a : Action) (vs : List Value) → 1 ≤ further (Ready a vs)
 ready action.Call (BuiltIn m holds ∷ vs) = omega arith
@@ -70,6 +71,10 @@ further_of_row member.ArraySize a vs e = ap (λ x. further (Ready x vs)) (sym (s
 further_of_row member.TextSize a vs e = ap (λ x. further (Ready x vs)) (sym (some_action (action.Operate op.TextSize) a e))
 further_of_row _ a vs e = absurd (let z : None ≡ Some a = e in cc)
 
+true_is : (x : Exp) → is_true x ≡ true → x ≡ truth
+true_is (source.Val (source.Made (Leaf (part.Flag true)) source.NoValue)) h = refl
+true_is _ h = absurd (let z : false ≡ true = h in cc)
+
 module _ (program : Core) (context : Context) (nodes : ℕ) (held : ℕ) (known : List Known) (world : World) (store : Store) (worlds_belong : WorldBelongs program.groups known context.globals store world) where
   module _ (b : Bool) (l : Labels) (k : Stack) (ck : List Frame) (around : Around program context nodes world known b l held k ck) (env : Environment) (vals : List core_value.Value) where
     abbrev A : machine.Focus → ℕ → Focus → List Frame → Act → Type 0
@@ -79,13 +84,25 @@ module _ (program : Core) (context : Context) (nodes : ℕ) (held : ℕ) (known 
     Code e c = Coded program.groups known context.globals b (with_own_label l) e env c vals
 
     -- the test of a loop, from where its body stands
-    tests : (f : machine.Focus) (x y : Exp) (c d : core.Exp) (spent : ℕ) → Code x c → Code y d → spent ≤ 2
+    tests : (f : machine.Focus) (x y : Exp) (c d : core.Exp) (spent : ℕ) → Code x c → CodedBeside program.groups known context.globals b (with_own_label l) y env d vals → spent ≤ 2
         → A f spent (Eval (while_of c d) vals) (Looping (while_of c d) vals ∷ core_machine.Labelled ∷ ck) (goes store (machine.Eval x env) (Testing x y env ∷ k))
     tests f x y c d spent p q le =
-        steps program context nodes 0 (start f k) (spent + owed k) (2 * 1 + held) 0 held known world _ _ (Eval c vals) (Arguments (Choose primitive.Copy d (break_with nothing)) [] NoExp vals ∷ Looping (while_of c d) vals ∷ core_machine.Labelled ∷ ck)
+        acts_ahead program context nodes (start f k) held known world store k 0 spent _ _ (Eval (if_true c nothing (break_with nothing)) vals) bound (goes store (machine.Eval x env) (Testing x y env ∷ k)) refl refl
+        (steps program context nodes 0 (start f k) (spent + 0 + owed k) (2 * 1 + held) 0 held known world _ _ (Eval c vals) (Arguments (Choose primitive.Copy nothing (break_with nothing)) [] NoExp vals ∷ bound)
         store (machine.Eval x env) (Testing x y env ∷ k) refl refl (omega (arith, le)) worlds_belong
-        (AtCode b (with_own_label l) x env (Testing x y env ∷ k) c vals (Arguments (Choose primitive.Copy d (break_with nothing)) [] NoExp vals ∷ Looping (while_of c d) vals ∷ core_machine.Labelled ∷ ck) p
-        (InTesting b l held x y env k c d vals ck p q around))
+        (AtCode b (with_own_label l) x env (Testing x y env ∷ k) c vals (Arguments (Choose primitive.Copy nothing (break_with nothing)) [] NoExp vals ∷ bound) p
+        (InTesting b l held x y env k c d vals ck p q around)))
+      where
+        bound : List Frame
+        bound = Arguments (Bind d) [] NoExp vals ∷ Looping (while_of c d) vals ∷ core_machine.Labelled ∷ ck
+
+    -- the test of one without an end, which holds
+    goes_on : (y : Exp) (d : core.Exp) (spent : ℕ) → CodedBeside program.groups known context.globals b l y env d vals → spent ≤ 2
+        → A (machine.Eval (While truth y) env) spent (Eval (endless_of d) vals) (Looping (endless_of d) vals ∷ ck) (goes store (machine.Eval truth env) (Testing truth y env ∷ k))
+    goes_on y d spent q le =
+        steps program context nodes 0 (start (machine.Eval (While truth y) env) k) (spent + owed k) (2 * 1 + held) 0 held known world _ _ (Eval nothing vals) (Arguments (Bind d) [] NoExp vals ∷ Looping (endless_of d) vals ∷ ck)
+        store (machine.Eval truth env) (Testing truth y env ∷ k) refl refl (omega (arith, le)) worlds_belong
+        (AtTruth b l y env k d vals ck q around)
 
     repeats : (f : machine.Focus) (y x : Exp) (d c : core.Exp) (spent : ℕ) → Code y d → CodedBeside program.groups known context.globals b (with_own_label l) x env c vals → spent ≤ 2
         → A f spent (Eval (repeat_of d c) vals) (Looping (repeat_of d c) vals ∷ core_machine.Labelled ∷ ck) (goes store (machine.Eval y env) (Repeating y x env ∷ k))
@@ -142,16 +159,69 @@ module _ (program : Core) (context : Context) (nodes : ℕ) (held : ℕ) (known 
           (group_names grown context.globals fns env g here fns 0 env places vals names_grown)))
           (stack_stays program.groups known (made ∷ []) context.globals nodes b l held k ck around))
 
+    -- one function of a group is made
+    module _ (places : List Place) (names : EnvironmentBelongs known context.globals places env vals) (fns : Functions) (d : Exp) (i n : ℕ) (body : Body) (z : core.Exp)
+        (there : slice_get program.groups n ≡ Some (record { sees = length vals; bodies = body ∷ [] })) (function : ElaboratesOne program.groups (unseen (count fns) (scope places l vals)) fns i body)
+        (rest : Elaborates program.groups b (only i (count fns) (scope places l vals)) d z) where
+      abbrev one : Known
+      one = OfOne fns i env
+
+      abbrev with_one : List Known
+      with_one = known ++ one ∷ []
+
+      abbrev number : ℕ
+      number = length world.groups
+
+      one_here : slice_get with_one number ≡ Some one
+      one_here = subst (λ i. slice_get with_one i ≡ Some one) (sym worlds_belong.groups.as_many) (last_stands known one)
+
+      names_with_one : EnvironmentBelongs with_one context.globals places env vals
+      names_with_one = names_stay program.groups known (one ∷ []) context.globals places env vals names
+
+      abbrev behind_one : List core_value.Value
+      behind_one = members number 0 1 ++ vals
+
+      pub one_follows : A (machine.Eval (source.Group fns d) env) 0 (Eval (core.Functions n z) vals) ck (reduces context.head None store (machine.Eval (source.Group fns d) env) k)
+      one_follows =
+          let fewer : body.nodes ≤ group_nodes fns = one_lighter program.groups (unseen (count fns) (scope places l vals)) fns i body function in
+          does program context nodes (start (machine.Eval (source.Group fns d) env) k) (0 + owed k) (2 * (1 + group_nodes fns) + held) 0 held (weighing (1 + nodes_of (body ∷ []))) [] known with_one world (worlds.with_group world n vals) _ ck (Eval z behind_one) ck store
+          (machine.Eval d (with_group fns env)) k
+          (ap (λ o. on_some (stuck program context nodes world) o (λ i. grouped program context nodes world n z vals ck i.bodies)) there) (omega (arith, fewer)) (omega arith) (one ∷ [], refl) refl
+          (world_grows program.groups known context.globals one store world n vals worlds_belong (record { places = places; labels = l; body = body; there = there; code = function; names = names_with_one }))
+          (AtCode b l d (with_group fns env) k z behind_one ck
+          (coded program context nodes with_one b (only i (count fns) (scope places l vals)) d (with_group fns env) z behind_one (omega arith) rest
+          (one_name with_one context.globals fns i env number one_here fns i 0 (omega arith) env places vals names_with_one))
+          (stack_stays program.groups known (one ∷ []) context.globals nodes b l held k ck around))
+
     eval_follows : (e : Exp) (c : core.Exp) → Coded program.groups known context.globals b l e env c vals → A (machine.Eval e env) 0 (Eval c vals) ck (reduces context.head None store (machine.Eval e env) k)
     eval_follows (source.Group fns d) c r =
-        let t : Elaborates program.groups b (scope r.places l vals) (source.Group fns d) c = r.code in
-        subst (λ x. A (machine.Eval (source.Group fns d) env) 0 (Eval x vals) ck (reduces context.head None store (machine.Eval (source.Group fns d) env) k)) (sym (t.6))
-        (group_follows r.places r.names fns d (t.0) (t.1) (t.2) (t.3) (t.4) (t.5))
+        either r.code
+      where
+        either : Elaborates program.groups b (scope r.places l vals) (source.Group fns d) c → A (machine.Eval (source.Group fns d) env) 0 (Eval c vals) ck (reduces context.head None store (machine.Eval (source.Group fns d) env) k)
+        either (inl t) =
+            subst (λ x. A (machine.Eval (source.Group fns d) env) 0 (Eval x vals) ck (reduces context.head None store (machine.Eval (source.Group fns d) env) k)) (sym (t.6))
+            (group_follows r.places r.names fns d (t.0) (t.1) (t.2) (t.3) (t.4) (t.5))
+        either (inr t) =
+            subst (λ x. A (machine.Eval (source.Group fns d) env) 0 (Eval x vals) ck (reduces context.head None store (machine.Eval (source.Group fns d) env) k)) (sym (t.7))
+            (one_follows r.places r.names fns d (t.0) (t.1) (t.2) (t.3) (t.4) (t.5) (t.6))
     eval_follows (While x d) c r =
         let t : Elaborates program.groups b (scope r.places l vals) (While x d) c = r.code in
         subst (λ y. A (machine.Eval (While x d) env) 0 (Eval y vals) ck (reduces context.head None store (machine.Eval (While x d) env) k)) (sym (t.4))
-        (enters_loop (machine.Eval (While x d) env) (while_of (t.0) (t.1)) (goes store (machine.Eval x env) (Testing x d env ∷ k))
-        (tests (machine.Eval (While x d) env) x d (t.0) (t.1) (0 + 1 + 1) (record { places = r.places; code = t.2; names = r.names }) (record { places = r.places; code = t.3; names = r.names }) (omega arith)))
+        (by (is_true x) refl (t.0) (t.1) (t.2) (t.3))
+      where
+        by : (e : Bool) → is_true x ≡ e → (y z : core.Exp) → Elaborates program.groups b (inside (scope r.places l vals)) x y → Elaborates program.groups b (beside 1 (loop_scope x (scope r.places l vals))) d z
+            → A (machine.Eval (While x d) env) 0 (Eval (loop_of x y z) vals) ck (goes store (machine.Eval x env) (Testing x d env ∷ k))
+        by true h y z p q =
+            let same : x ≡ truth = true_is x h in
+            subst (λ i. A (machine.Eval (While x d) env) 0 (Eval (cond i (Loop (endless_of z)) (tested_loop y z)) vals) ck (goes store (machine.Eval x env) (Testing x d env ∷ k))) (sym h)
+            (subst (λ i. A (machine.Eval (While i d) env) 0 (Eval (Loop (endless_of z)) vals) ck (goes store (machine.Eval i env) (Testing i d env ∷ k))) (sym same)
+            (acts_ahead program context nodes (start (machine.Eval (While truth d) env) k) held known world store k 1 0 _ ck (Eval (endless_of z) vals) (Looping (endless_of z) vals ∷ ck) (goes store (machine.Eval truth env) (Testing truth d env ∷ k)) refl refl
+            (goes_on d z (0 + 1) (record { places = r.places; code = subst (λ i. Elaborates program.groups b (record (beside 1 (scope r.places l vals)) { labels = cond i l.count (suc l.count) }) d z) h q; names = r.names }) (omega arith))))
+        by false h y z p q =
+            subst (λ i. A (machine.Eval (While x d) env) 0 (Eval (cond i (Loop (endless_of z)) (tested_loop y z)) vals) ck (goes store (machine.Eval x env) (Testing x d env ∷ k))) (sym h)
+            (enters_loop (machine.Eval (While x d) env) (while_of y z) (goes store (machine.Eval x env) (Testing x d env ∷ k))
+            (tests (machine.Eval (While x d) env) x d y z (0 + 1 + 1) (record { places = r.places; code = p; names = r.names })
+            (record { places = r.places; code = subst (λ i. Elaborates program.groups b (record (beside 1 (scope r.places l vals)) { labels = cond i l.count (suc l.count) }) d z) h q; names = r.names }) (omega arith)))
     eval_follows (Repeat d x) c r =
         let t : Elaborates program.groups b (scope r.places l vals) (Repeat d x) c = r.code in
         subst (λ y. A (machine.Eval (Repeat d x) env) 0 (Eval y vals) ck (reduces context.head None store (machine.Eval (Repeat d x) env) k)) (sym (t.4))
@@ -183,8 +253,9 @@ module _ (program : Core) (context : Context) (nodes : ℕ) (held : ℕ) (known 
   turned b l p e env v k c w vals ck f more (Written n env') value pattern around = tt
   turned b l p e env v k c w vals ck f more (Arrived (suc n)) value pattern around = tt
   turned b l p e env v k c w vals ck f more (Arrived zero) value pattern around =
-      steps program context nodes 0 (start f more) (0 + owed more) (2 * 1 + held) 0 held known world _ _ (Eval (next_of (core.Name 0)) (w ∷ vals)) (turn_stack c w vals ck) store (machine.Give v) (Going p e env ∷ k) refl refl (omega arith) worlds_belong
-      (AtGoing b l p e env v k c w vals ck value pattern around)
+      acts_ahead program context nodes (start f more) held known world store more 0 0 _ _ (Eval element_of (w ∷ vals)) (element_stack c w vals ck) (goes store (machine.Give v) (Going p e env ∷ k)) refl refl
+      (steps program context nodes 0 (start f more) (0 + 0 + owed more) (2 * 1 + held) 0 held known world _ _ (Eval (next_of (core.Name 0)) (w ∷ vals)) (turn_stack c w vals ck) store (machine.Give v) (Going p e env ∷ k) refl refl (omega arith) worlds_belong
+      (AtGoing b l p e env v k c w vals ck value pattern around))
 
   left_behind : (b : Bool) (l : Labels) (p : Pat) (e : Exp) (env : Environment) (v : Value) (k : Stack) (ck : List Frame) (f : machine.Focus) (more : Stack)
       → Passing false (Stepping p v e env ∷ k) f more → Around program context nodes world known b l held k ck
@@ -267,6 +338,11 @@ module _ (program : Core) (context : Context) (nodes : ℕ) (held : ℕ) (known 
       (eval_follows b l j cj around env vals e c code)
   reduces_follow f k cf ck (AtWhile b l x y env j c d vals cj p q r) suits =
       (tests b l j cj r env vals (machine.Eval (While x y) env) x y c d 0 p q (omega arith))
+  reduces_follow f k cf ck (AtEndless b l y env j d vals cj q r) suits = goes_on b l j cj r env vals y d 0 q (omega arith)
+  reduces_follow f k cf ck (AtTruth b l y env j d vals cj q r) suits = tt
+  reduces_follow f k cf ck (AtTrue b l y env j d vals cj q r) suits =
+      steps program context nodes 1 (start f k) (0 + owed k) (2 * 1 + held) 0 held known world cf ck (Eval d (unit ∷ vals)) (Looping (endless_of d) vals ∷ cj) store (machine.Eval y env) (Turning truth y env ∷ j) refl refl (omega arith) worlds_belong
+      (AtCode b l y env (Turning truth y env ∷ j) d (unit ∷ vals) (Looping (endless_of d) vals ∷ cj) (beside_code program context nodes held known world store worlds_belong b l y env d vals unit q) (InEndless b l held y env j d vals cj q r))
   reduces_follow f k cf ck (AtRepeat b l y x env j d c vals cj p q r) suits =
       (repeats b l j cj r env vals (machine.Eval (Repeat y x) env) y x d c 0 p q (omega arith))
   reduces_follow f k cf ck (AtAction a vs j g cj r) suits = acting a vs j g cj r suits

@@ -11,7 +11,7 @@ use Rattle.mo_machine.specs.Frames.{Stack}
 use Rattle.elaboration.specs.Meeting as meeting
 use Rattle.elaboration.specs.Meeting.{Comes, There}
 use Rattle.elaboration_values.specs.Belonging.{Known}
-use Rattle.elaboration_steps.specs.Stacks.{FillingBelongs, Soon, AtNew, AtCells, AtRead, AtHeld, StateBelongs, joinings, Passing, Written, Arrived, AtCode, AtWhile, AtRepeat, AtAction, AtValue, AtEnd, AtBody, AtTurned, AtGoing, AtLeft, AtCallee, AtMaking, AtMade, AtApplied, AtInner, AtBack, AtFunction, Later, LaterBy, AtRaising, AtWriting, AtWritten}
+use Rattle.elaboration_steps.specs.Stacks.{FillingBelongs, Soon, AtNew, AtCells, AtRead, AtHeld, StateBelongs, joinings, Passing, Written, Arrived, AtCode, AtWhile, AtRepeat, AtAction, AtValue, AtEnd, AtBody, AtTurned, AtGoing, AtLeft, AtCallee, AtMaking, AtMade, AtApplied, AtInner, AtBack, AtFunction, Later, LaterBy, AtRaising, AtWriting, AtWritten, AtEndless, AtTruth, AtTrue}
 use Rattle.elaboration_steps.specs.Follows.{NoDeeper}
 use Rattle.elaboration_steps.proofs.Depth.{as_deep}
 use Rattle.elaboration_steps.proofs.Levels.{joins_level}
@@ -39,6 +39,9 @@ module _ (program : Core) (context : Context) (nodes : ℕ) (world : World) (kno
   pub state_deep : (f : machine.Focus) (k : Stack) (cf : core_machine.Focus) (ck : List core_machine.Frame) (state : StateBelongs program context nodes world known held f k cf ck) → NotEnd f k cf ck state → Deep ck ≤ live_state f k
   state_deep f k cf ck (AtCode b l e env j c vals cj code around) h = let z : live_on j ≡ Deep cj = as_deep program.groups known context.globals nodes b l held j cj around in omega (arith, z)
   state_deep f k cf ck (AtWhile b l x y env j c d vals cj p q around) h = let z : live_on j ≡ Deep cj = as_deep program.groups known context.globals nodes b l held j cj around in omega (arith, z)
+  state_deep f k cf ck (AtEndless b l y env j d vals cj q around) h = let z : live_on j ≡ Deep cj = as_deep program.groups known context.globals nodes b l held j cj around in omega (arith, z)
+  state_deep f k cf ck (AtTruth b l y env j d vals cj q around) h = let z : live_on j ≡ Deep cj = as_deep program.groups known context.globals nodes b l held j cj around in omega (arith, z)
+  state_deep f k cf ck (AtTrue b l y env j d vals cj q around) h = let z : live_on j ≡ Deep cj = as_deep program.groups known context.globals nodes b l held j cj around in omega (arith, z)
   state_deep f k cf ck (AtRepeat b l y x env j d c vals cj p q around) h = let z : live_on j ≡ Deep cj = as_deep program.groups known context.globals nodes b l held j cj around in omega (arith, z)
   state_deep f k cf ck (AtAction a vs j g cj r) h =
       let z : live_on j ≡ Deep r.others = as_deep program.groups known context.globals nodes r.b r.l r.less j r.others r.around in

@@ -16,7 +16,7 @@ use Rattle.core_ir.specs.Worlds.{World, Context}
 use Rattle.core_ir.specs.Executions.{Go}
 use Rattle.core_ir.specs.Expressions as core
 use Rattle.core_ir.specs.Openings.{Inside, Otherwise, option_opened}
-use Rattle.core_ir.specs.Expressions.{NoExp, AnExp, Choose, Match, Break, Core}
+use Rattle.core_ir.specs.Expressions.{NoExp, AnExp, Choose, Match, Break, Core, Bind}
 use Rattle.core_ir.specs.CoreMachine as core_machine
 use Rattle.core_ir.specs.CoreMachine.{Frame, Arguments, Looping, Join, Focus, Eval, Give, focused, at, stuck, matched}
 use Rattle.typed_tree.specs.declared.action.Action.TheVariants as action
@@ -38,13 +38,13 @@ use Rattle.mo_machine.specs.Matching.{on_match, fails_to_match, first_case, tryi
 use Rattle.mo_machine.specs.Reductions.{reduces}
 use Rattle.elaboration.specs.Scopes.{beside, inside, nothing, one}
 use Rattle.elaboration.specs.Checks.{Named, check, around_all, behind, fails}
-use Rattle.elaboration.specs.Elaboration.{break_with, if_true, next_of}
+use Rattle.elaboration.specs.Elaboration.{break_with, if_true, next_of, element_of}
 use Rattle.elaboration.specs.Meeting.{OpensTo, Meets, There}
 use Rattle.elaboration.proofs.Coming.{reads_new, reads_more, step, pop}
 use Rattle.elaboration_forms.specs.Elaborates.{Elaborates, ElaboratesCases}
 use Rattle.elaboration_values.specs.Belonging.{Known, Names, Belongs, AlikeFound}
 use Rattle.elaboration_values.proofs.Belong.{patterns}
-use Rattle.elaboration_steps.specs.Stacks.{Labels, with_own_label, scope, while_of, repeat_of, update_with, turn_with, Coded, CodedBeside, CodedPattern, CodedTurn, Written, WorldBelongs, AtCode, AtWhile, AtRepeat, AtAction, AtValue, AtEnd, AtBody, AtTurned, AtLeft, Around, Bottom, InFunction, InGathering, InOperands, InMaking, InCalling, InHolding, InChoosing, InLet, InSwitch, InLabel, InTesting, InTurning, InRepeating, InRetesting, InTry, InUpdating, InGoing, InTurn, InBody, InBranch, InCase, gathering_on, gathering_of, Gathered}
+use Rattle.elaboration_steps.specs.Stacks.{Labels, with_own_label, scope, while_of, repeat_of, update_with, turn_with, Coded, CodedBeside, CodedPattern, CodedTurn, Written, WorldBelongs, AtCode, AtWhile, AtRepeat, AtAction, AtValue, AtEnd, AtBody, AtTurned, AtLeft, Around, Bottom, InFunction, InGathering, InOperands, InMaking, InCalling, InHolding, InChoosing, InLet, InSwitch, InLabel, InTesting, InTurning, InRepeating, InRetesting, InTry, InUpdating, InGoing, InTurn, InBody, InBranch, InCase, gathering_on, gathering_of, Gathered, InEndless, AtEndless, truth, endless_of}
 use Rattle.elaboration_steps.specs.Follows.{start, owed, Suits, Acts}
 use Rattle.elaboration_steps.proofs.Matching.{one_more, on_both, names_more, coded, pattern_lands, pattern_follows, cases_follow}
 use Rattle.elaboration_steps.proofs.Gathering.{gathers_behind}
@@ -57,8 +57,11 @@ asks_next v = Ready (action.Operate (op.Field (codes "next"))) (v ∷ [])
 abbrev pub next_stack : Pat → Exp → Environment → Value → Stack → Stack
 next_stack p e env v j = Operands action.Call [] source.NoExp env ∷ Switching (turn_cases p e) env ∷ Stepping p v e env ∷ j
 
+abbrev pub element_stack : core.Exp → core_value.Value → List core_value.Value → List Frame → List Frame
+element_stack c w vals cj = Arguments (Bind c) [] NoExp (w ∷ vals) ∷ Looping (turn_with c) (w ∷ vals) ∷ core_machine.Labelled ∷ cj
+
 abbrev pub turn_stack : core.Exp → core_value.Value → List core_value.Value → List Frame → List Frame
-turn_stack c w vals cj = Arguments (Match constructor.Present c (break_with nothing)) [] NoExp (w ∷ vals) ∷ Looping (turn_with c) (w ∷ vals) ∷ core_machine.Labelled ∷ cj
+turn_stack c w vals cj = Arguments (Match constructor.Present (core.Name 0) (break_with nothing)) [] NoExp (w ∷ vals) ∷ element_stack c w vals cj
 
 abbrev call_stack : core.Exp → core_value.Value → List core_value.Value → List Frame → List Frame
 call_stack c w vals cj = Arguments core.Call [] NoExp (w ∷ vals) ∷ turn_stack c w vals cj
@@ -179,16 +182,27 @@ module _ (program : Core) (context : Context) (nodes : ℕ) (held : ℕ) (known 
         steps program context nodes 0 (start (machine.Give v) k) (0 + owed k) (2 * 1 + held) 0 held known world (Give w) ck (Give w) cj store (machine.Give v) j refl refl (omega arith) worlds (AtValue c m v w j cj value r)
     takes_follow b l k ck (InTesting x m h y z env j c d vals cj p q r) suits =
         by_flag known (λ t. A k 0 (Give w) ck (on_stack store t j)) v w (goes store (machine.Eval z env) (Turning y z env ∷ [])) (goes store (machine.Give machine_value.unit) []) value tt
-        (λ e. steps program context nodes 1 (start (machine.Give v) k) (0 + owed k) (2 * 1 + held) 0 held known world (Give w) ck (Eval d vals) (Join ∷ Looping (while_of c d) vals ∷ core_machine.Labelled ∷ cj) store (machine.Eval z env) (Turning y z env ∷ j)
-        (choice true d (break_with nothing) vals (Looping (while_of c d) vals ∷ core_machine.Labelled ∷ cj) e) refl (omega arith) worlds
-        (AtCode x (with_own_label m) z env (Turning y z env ∷ j) d vals (Join ∷ Looping (while_of c d) vals ∷ core_machine.Labelled ∷ cj) q (InTurning x m held y z env j c d vals cj p q r)))
-        (λ e. acts_ahead program context nodes (start (machine.Give v) k) held known world store k 1 0 (Give w) ck (Eval (break_with nothing) vals) (Join ∷ Looping (while_of c d) vals ∷ core_machine.Labelled ∷ cj) (goes store (machine.Give machine_value.unit) j)
-        (choice false d (break_with nothing) vals (Looping (while_of c d) vals ∷ core_machine.Labelled ∷ cj) e) refl
-        (finishes j k x m (0 + 1) (while_of c d) vals vals cj refl (omega arith) r))
+        (λ e. acts_ahead program context nodes (start (machine.Give v) k) held known world store k 1 0 (Give w) ck (Eval nothing vals) (Join ∷ Arguments (Bind d) [] NoExp vals ∷ turns) (goes store (machine.Eval z env) (Turning y z env ∷ j))
+        (choice true nothing (break_with nothing) vals (Arguments (Bind d) [] NoExp vals ∷ turns) e) refl
+        (acts_ahead program context nodes (start (machine.Give v) k) held known world store k 0 (0 + 1) _ _ (Give shape.unit) (Join ∷ Arguments (Bind d) [] NoExp vals ∷ turns) (goes store (machine.Eval z env) (Turning y z env ∷ j)) refl refl
+        (acts_ahead program context nodes (start (machine.Give v) k) held known world store k 0 (0 + 1 + 0) _ _ (Give shape.unit) (Arguments (Bind d) [] NoExp vals ∷ turns) (goes store (machine.Eval z env) (Turning y z env ∷ j)) refl refl
+        (steps program context nodes 1 (start (machine.Give v) k) (0 + 1 + 0 + 0 + owed k) (2 * 1 + held) 0 held known world _ _ (Eval d (shape.unit ∷ vals)) turns store (machine.Eval z env) (Turning y z env ∷ j) refl refl (omega arith) worlds
+        (AtCode x (with_own_label m) z env (Turning y z env ∷ j) d (shape.unit ∷ vals) turns (beside_code x (with_own_label m) z env d vals shape.unit q) (InTurning x m held y z env j c d vals cj p q r))))))
+        (λ e. acts_ahead program context nodes (start (machine.Give v) k) held known world store k 1 0 (Give w) ck (Eval (break_with nothing) vals) (Join ∷ Arguments (Bind d) [] NoExp vals ∷ turns) (goes store (machine.Give machine_value.unit) j)
+        (choice false nothing (break_with nothing) vals (Arguments (Bind d) [] NoExp vals ∷ turns) e) refl
+        (acts_ahead program context nodes (start (machine.Give v) k) held known world store k 0 (0 + 1) _ _ (Eval nothing vals) (Arguments (Break 0) [] NoExp vals ∷ Join ∷ Arguments (Bind d) [] NoExp vals ∷ turns) (goes store (machine.Give machine_value.unit) j) refl refl
+        (acts_ahead program context nodes (start (machine.Give v) k) held known world store k 0 (0 + 1 + 0) _ _ (Give shape.unit) (Arguments (Break 0) [] NoExp vals ∷ Join ∷ Arguments (Bind d) [] NoExp vals ∷ turns) (goes store (machine.Give machine_value.unit) j) refl refl
+        (steps program context nodes 1 (start (machine.Give v) k) (0 + 1 + 0 + 0 + owed k) (2 * 1 + held) 0 held known world _ _ (Give shape.unit) cj store (machine.Give machine_value.unit) j refl refl (omega arith) worlds
+        (AtValue x m machine_value.unit shape.unit j cj (refl, tt) r)))))
+      where
+        turns : List Frame
+        turns = Looping (while_of c d) vals ∷ core_machine.Labelled ∷ cj
     takes_follow b l k ck (InTurning x m h y z env j c d vals cj p q r) suits =
-        acts_ahead program context nodes (start (machine.Give v) k) held known world store k 0 0 (Give w) ck (Give w) (Looping (while_of c d) vals ∷ core_machine.Labelled ∷ cj) (Goes (weighing 2) store (machine.Eval (While y z) env) j) refl refl
-        (steps program context nodes 1 (start (machine.Give v) k) (0 + 0 + owed k) (2 * 2 + held) 0 held known world (Give w) _ (Eval (while_of c d) vals) (Looping (while_of c d) vals ∷ core_machine.Labelled ∷ cj) store (machine.Eval (While y z) env) j refl refl (omega arith) worlds
-        (AtWhile x m y z env j c d vals cj p q r))
+        steps program context nodes 1 (start (machine.Give v) k) (0 + owed k) (2 * 2 + held) 0 held known world (Give w) ck (Eval (while_of c d) vals) ck store (machine.Eval (While y z) env) j refl refl (omega arith) worlds
+        (AtWhile x m y z env j c d vals cj p q r)
+    takes_follow b l k ck (InEndless x m h y env j d vals cj q r) suits =
+        steps program context nodes 1 (start (machine.Give v) k) (0 + owed k) (2 * 2 + held) 0 held known world (Give w) ck (Eval (endless_of d) vals) ck store (machine.Eval (While truth y) env) j refl refl (omega arith) worlds
+        (AtEndless x m y env j d vals cj q r)
     takes_follow b l k ck (InRepeating x m h y z env j d c vals cj p q r) suits =
         acts_ahead program context nodes (start (machine.Give v) k) held known world store k 1 0 (Give w) ck (Eval (if_true c nothing (break_with nothing)) (w ∷ vals)) (Looping (repeat_of d c) vals ∷ core_machine.Labelled ∷ cj) (Goes (weighing 2) store (machine.Eval z env) (Retesting y z env ∷ j)) refl refl
         (steps program context nodes 0 (start (machine.Give v) k) (0 + 1 + owed k) (2 * 2 + held) 0 held known world _ _ (Eval c (w ∷ vals)) (Arguments (Choose primitive.Copy nothing (break_with nothing)) [] NoExp (w ∷ vals) ∷ Looping (repeat_of d c) vals ∷ core_machine.Labelled ∷ cj) store (machine.Eval z env) (Retesting y z env ∷ j) refl refl (omega arith) worlds
@@ -221,10 +235,11 @@ module _ (program : Core) (context : Context) (nodes : ℕ) (held : ℕ) (known 
           may = tt;
           path = step program context nodes world 1 1 (Eval (core.Label (core.Loop (turn_with c))) (w ∷ vals)) cj (Eval (core.Loop (turn_with c)) (w ∷ vals)) (core_machine.Labelled ∷ cj) refl (Give w) (field_stack c w vals cj) refl
               (step program context nodes world 1 0 (Eval (core.Loop (turn_with c)) (w ∷ vals)) (core_machine.Labelled ∷ cj) (Eval (turn_with c) (w ∷ vals)) (Looping (turn_with c) (w ∷ vals) ∷ core_machine.Labelled ∷ cj) refl (Give w) (field_stack c w vals cj) refl
-              (step program context nodes world 0 0 (Eval (turn_with c) (w ∷ vals)) (Looping (turn_with c) (w ∷ vals) ∷ core_machine.Labelled ∷ cj) (Eval (next_of (core.Name 0)) (w ∷ vals)) (turn_stack c w vals cj) refl (Give w) (field_stack c w vals cj) refl
+              (step program context nodes world 0 0 (Eval (turn_with c) (w ∷ vals)) (Looping (turn_with c) (w ∷ vals) ∷ core_machine.Labelled ∷ cj) (Eval element_of (w ∷ vals)) (element_stack c w vals cj) refl (Give w) (field_stack c w vals cj) refl
+              (step program context nodes world 0 0 (Eval element_of (w ∷ vals)) (element_stack c w vals cj) (Eval (next_of (core.Name 0)) (w ∷ vals)) (turn_stack c w vals cj) refl (Give w) (field_stack c w vals cj) refl
               (step program context nodes world 0 0 (Eval (next_of (core.Name 0)) (w ∷ vals)) (turn_stack c w vals cj) (Eval next_field (w ∷ vals)) (call_stack c w vals cj) refl (Give w) (field_stack c w vals cj) refl
               (step program context nodes world 0 0 (Eval next_field (w ∷ vals)) (call_stack c w vals cj) (Eval (core.Name 0) (w ∷ vals)) (field_stack c w vals cj) refl (Give w) (field_stack c w vals cj) refl
-              (step program context nodes world 0 0 (Eval (core.Name 0) (w ∷ vals)) (field_stack c w vals cj) (Give w) (field_stack c w vals cj) refl (Give w) (field_stack c w vals cj) refl (There 0 (Give w) (field_stack c w vals cj)))))));
+              (step program context nodes world 0 0 (Eval (core.Name 0) (w ∷ vals)) (field_stack c w vals cj) (Give w) (field_stack c w vals cj) refl (Give w) (field_stack c w vals cj) refl (There 0 (Give w) (field_stack c w vals cj))))))));
           acts = refl;
           level = refl;
           paid = omega arith;
@@ -250,10 +265,10 @@ module _ (program : Core) (context : Context) (nodes : ℕ) (held : ℕ) (known 
         left : (env' : Environment) → option_opened w ≡ Otherwise → A k 0 (Give w) ck (Goes (weighing (1 + trying (Constant part.Null) v)) store (machine.Eval (source.Val (source.leaf (part.Flag false))) env') (Joining ∷ Stepping p u e env ∷ j))
         left env' o =
             let t : Act = Goes (weighing (1 + trying (Constant part.Null) v)) store (machine.Eval (source.Val (source.leaf (part.Flag false))) env') (Joining ∷ Stepping p u e env ∷ j) in
-            acts_ahead program context nodes (start (machine.Give v) k) held known world store k 1 0 (Give w) ck (Eval (break_with nothing) (z ∷ vals)) (Join ∷ Looping (turn_with c) (z ∷ vals) ∷ core_machine.Labelled ∷ cj) t
-            (ap (matched program context nodes world c (break_with nothing) (z ∷ vals) (Looping (turn_with c) (z ∷ vals) ∷ core_machine.Labelled ∷ cj)) o) refl
-            (acts_ahead program context nodes (start (machine.Give v) k) held known world store k 0 (0 + 1) _ _ (Eval nothing (z ∷ vals)) (Arguments (Break 0) [] NoExp (z ∷ vals) ∷ Join ∷ Looping (turn_with c) (z ∷ vals) ∷ core_machine.Labelled ∷ cj) t refl refl
-            (acts_ahead program context nodes (start (machine.Give v) k) held known world store k 0 (0 + 1 + 0) _ _ (Give shape.unit) (Arguments (Break 0) [] NoExp (z ∷ vals) ∷ Join ∷ Looping (turn_with c) (z ∷ vals) ∷ core_machine.Labelled ∷ cj) t refl refl
+            acts_ahead program context nodes (start (machine.Give v) k) held known world store k 1 0 (Give w) ck (Eval (break_with nothing) (z ∷ vals)) (Join ∷ element_stack c z vals cj) t
+            (ap (matched program context nodes world (core.Name 0) (break_with nothing) (z ∷ vals) (element_stack c z vals cj)) o) refl
+            (acts_ahead program context nodes (start (machine.Give v) k) held known world store k 0 (0 + 1) _ _ (Eval nothing (z ∷ vals)) (Arguments (Break 0) [] NoExp (z ∷ vals) ∷ Join ∷ element_stack c z vals cj) t refl refl
+            (acts_ahead program context nodes (start (machine.Give v) k) held known world store k 0 (0 + 1 + 0) _ _ (Give shape.unit) (Arguments (Break 0) [] NoExp (z ∷ vals) ∷ Join ∷ element_stack c z vals cj) t refl refl
             (steps program context nodes 1 (start (machine.Give v) k) (0 + 1 + 0 + 0 + owed k) (2 * (1 + trying (Constant part.Null) v) + held) 0 held known world _ _ (Give shape.unit) cj store (machine.Eval (source.Val (source.leaf (part.Flag false))) env') (Joining ∷ Stepping p u e env ∷ j) refl refl (omega arith) worlds
             (AtLeft x m p e env u j cj (machine.Eval (source.Val (source.leaf (part.Flag false))) env') (Joining ∷ Stepping p u e env ∷ j) (Written 1 env') r))))
 
@@ -275,10 +290,15 @@ module _ (program : Core) (context : Context) (nodes : ℕ) (held : ℕ) (known 
         element : (a : core_value.Value) → option_opened w ≡ Inside a → Meets p a → (s : Shape Code) → Alike (Names known) s a → A k 0 (Give w) ck (Tried (Some s))
         element a o good s al =
             subst (λ y. A k 0 (Give w) ck (Tried (Some y))) (shape_value s)
+            (let t : Act = Tried (Some (shape_of (value_of s))) in
+            acts_ahead program context nodes (start (machine.Give v) k) held known world store k 1 0 (Give w) ck (Eval (core.Name 0) (a ∷ z ∷ vals)) (Join ∷ element_stack c z vals cj) t
+            (ap (matched program context nodes world (core.Name 0) (break_with nothing) (z ∷ vals) (element_stack c z vals cj)) o) refl
+            (acts_ahead program context nodes (start (machine.Give v) k) held known world store k 0 (0 + 1) _ _ (Give a) (Join ∷ element_stack c z vals cj) t refl refl
+            (acts_ahead program context nodes (start (machine.Give v) k) held known world store k 0 (0 + 1 + 0) _ _ (Give a) (element_stack c z vals cj) t refl refl
             (pattern_lands program context nodes (start (machine.Give v) k) held known world store k worlds p e env c (z ∷ vals) x (with_own_label m) held (λ vs. machine.Eval (source.then e (source.Val source.true_value)) (extended vs env)) (Joining ∷ Stepping p u e env ∷ j)
-            (Looping (turn_with c) (z ∷ vals) ∷ core_machine.Labelled ∷ cj) (Join ∷ []) (value_of s) a 1 (1 + trying (Constant part.Null) v + (1 + trying p (value_of s))) 0 (Give w) ck d (value_belongs known s a al) good tt
+            (Looping (turn_with c) (z ∷ vals) ∷ core_machine.Labelled ∷ cj) [] (value_of s) a 1 (1 + trying (Constant part.Null) v + (1 + trying p (value_of s))) (0 + 1 + 0 + 0) (Give a) (element_stack c z vals cj) d (value_belongs known s a al) good tt
             (λ vs env' js h code. AtBody x m p e env (extended vs env) u j c d.body z vals env' js cj h i d code r)
-            (ap (matched program context nodes world c (break_with nothing) (z ∷ vals) (Looping (turn_with c) (z ∷ vals) ∷ core_machine.Labelled ∷ cj)) o) (omega arith) (omega arith) (omega arith))
+            refl (omega arith) (omega arith) (omega arith)))))
 
         present : (a : core_value.Value) → option_opened w ≡ Inside a → A k 0 (Give w) ck M
         present a o =

@@ -16,7 +16,7 @@ use Rattle.mo_machine.specs.Measure.{left_on}
 use Rattle.mo_machine.specs.Jumps.{throw}
 use Rattle.elaboration.specs.Meeting.{Joins, There}
 use Rattle.elaboration_values.specs.Belonging.{Known, Belongs}
-use Rattle.elaboration_steps.specs.Stacks.{Passed, Labels, turn_with, WorldBelongs, AtAction, Around, Bottom, InOperands, InMaking, InCalling, InHolding, InChoosing, InLet, InSwitch, InLabel, InTesting, InTurning, InRepeating, InRetesting, InTry, InUpdating, InGoing, InTurn, InBody, InBranch, InCase}
+use Rattle.elaboration_steps.specs.Stacks.{Passed, Labels, turn_with, WorldBelongs, AtAction, Around, Bottom, InOperands, InMaking, InCalling, InHolding, InChoosing, InLet, InSwitch, InLabel, InTesting, InTurning, InRepeating, InRetesting, InTry, InUpdating, InGoing, InTurn, InBody, InBranch, InCase, InEndless}
 use Rattle.elaboration_steps.specs.Follows.{Start, owed, HandlerMeets, Acts}
 use Rattle.elaboration_steps.proofs.Levels.{joins_level, skips_level}
 use Rattle.elaboration_steps.proofs.Matching.{pattern_follows}
@@ -85,6 +85,7 @@ module _ (program : Core) (context : Context) (nodes : ℕ) (before : Start) (he
   throws l less k ck (InSwitch x m h cs env j c vals cj i r) meets eq le q low deep = throws m h j cj r meets eq le q (omega (arith, low)) deep
   throws l less k ck (InTesting x m h y z env j c d vals cj p i r) meets eq le q low deep = throws m h j cj r meets eq le q (omega (arith, low)) deep
   throws l less k ck (InTurning x m h y z env j c d vals cj p i r) meets eq le q low deep = throws m h j cj r meets eq le q (omega (arith, low)) deep
+  throws l less k ck (InEndless x m h y env j d vals cj i r) meets eq le q low deep = throws m h j cj r meets eq le q (omega (arith, low)) deep
   throws l less k ck (InRepeating x m h y z env j d c vals cj p i r) meets eq le q low deep = throws m h j cj r meets eq le q (omega (arith, low)) deep
   throws l less k ck (InRetesting x m h y z env j d c u vals cj p i r) meets eq le q low deep = throws m h j cj r meets eq le q (omega (arith, low)) deep
   throws l less k ck (InUpdating x m h o e env j c vals cj i r) meets eq le q low deep = throws m h j cj r meets eq le q (omega (arith, low)) deep

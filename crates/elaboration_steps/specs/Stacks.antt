@@ -47,10 +47,10 @@ use Rattle.mo_machine.specs.Frames.{Operands, Choosing, Switching, Returning, Te
 use Rattle.elaboration.specs.Scopes.{Place, Scope, one, two, append, nothing, beside, inside, under}
 use Rattle.elaboration.specs.Checks.{around_all, behind, fails}
 use Rattle.elaboration.specs.Members.{form_of, number_of, function_of, let_in, does}
-use Rattle.elaboration.specs.Elaboration.{break_with, if_true, goal_of, next_of, on_nearest}
+use Rattle.elaboration.specs.Elaboration.{break_with, if_true, goal_of, next_of, on_nearest, element_of}
 use Rattle.elaboration.specs.Meeting.{Reads, Joins, Comes}
-use Rattle.elaboration_forms.specs.Elaborates.{May, HasGroups, Elaborates, ElaboratesAll, ElaboratesCases, ElaboratesFunctions}
-use Rattle.elaboration_values.specs.Belonging.{Known, OfFunctions, OfMember, Belongs, EachBelongs, EnvironmentBelongs}
+use Rattle.elaboration_forms.specs.Elaborates.{May, HasGroups, unseen, Elaborates, ElaboratesAll, ElaboratesCases, ElaboratesFunctions, ElaboratesOne}
+use Rattle.elaboration_values.specs.Belonging.{Known, OfFunctions, OfOne, OfMember, Belongs, EachBelongs, EnvironmentBelongs}
 
 -- frames of Core that a jump passes on its way to a label
 abbrev pub Passed : List core_machine.Frame → Type 0
@@ -118,22 +118,29 @@ spare _ = 0
 
 -- ---- code whose names have their values
 
--- `op=` behind its place, and the test behind the body of a loop
+-- `op=` behind its place, and the turns of loops
 abbrev pub update_with : Operation → core.Exp → core.Exp
 update_with o c = does primitive.Write (two (core.Name 0) (does (primitive.Operate o) (two (does primitive.Read (one (core.Name 0))) c)))
 
 abbrev pub while_of : core.Exp → core.Exp → core.Exp
-while_of c d = if_true c d (break_with nothing)
+while_of c d = let_in (if_true c nothing (break_with nothing)) d
+
+abbrev pub endless_of : core.Exp → core.Exp
+endless_of d = let_in nothing d
 
 abbrev pub repeat_of : core.Exp → core.Exp → core.Exp
 repeat_of d c = let_in d (if_true c nothing (break_with nothing))
 
 -- a turn of a `for`, with what is done with an element; and the cases of its body, behind which a truth value comes
 abbrev pub turn_with : core.Exp → core.Exp
-turn_with c = core.Do (Match constructor.Present c (break_with nothing)) (one (next_of (core.Name 0)))
+turn_with c = let_in element_of c
 
 abbrev pub body_cases : Cases
 body_cases = ACase Wildcard (Val true_value) NoCase
+
+-- the test of a loop without an end
+abbrev pub truth : Exp
+truth = Val (source.leaf (part.Flag true))
 
 -- elements that are made one after another, of the values of these names
 pub data Making (a : Action) (e : Environment) : Exps → List Value → Type 0 where
@@ -278,11 +285,14 @@ module _ (table : List (Group Body)) (known : List Known) (globals : List core_v
     InLabel : (b : Bool) (l : Labels) (held : ℕ) (k : Stack) (ck : List core_machine.Frame)
         → StackBelongs nodes b l held k ck → StackBelongs nodes b (with_label l) held (machine.Labelled ∷ k) (core_machine.Labelled ∷ ck)
     InTesting : (b : Bool) (l : Labels) (held : ℕ) (x y : Exp) (env : Environment) (k : Stack) (c d : core.Exp) (vals : List core_value.Value) (ck : List core_machine.Frame)
-        → Coded b (with_own_label l) x env c vals → Coded b (with_own_label l) y env d vals → StackBelongs nodes b l held k ck
-        → StackBelongs nodes b (with_own_label l) held (Testing x y env ∷ k) (Arguments (Choose primitive.Copy d (break_with nothing)) [] NoExp vals ∷ Looping (while_of c d) vals ∷ core_machine.Labelled ∷ ck)
+        → Coded b (with_own_label l) x env c vals → CodedBeside b (with_own_label l) y env d vals → StackBelongs nodes b l held k ck
+        → StackBelongs nodes b (with_own_label l) held (Testing x y env ∷ k)
+        (Arguments (Choose primitive.Copy nothing (break_with nothing)) [] NoExp vals ∷ Arguments (Bind d) [] NoExp vals ∷ Looping (while_of c d) vals ∷ core_machine.Labelled ∷ ck)
     InTurning : (b : Bool) (l : Labels) (held : ℕ) (x y : Exp) (env : Environment) (k : Stack) (c d : core.Exp) (vals : List core_value.Value) (ck : List core_machine.Frame)
-        → Coded b (with_own_label l) x env c vals → Coded b (with_own_label l) y env d vals → StackBelongs nodes b l held k ck
-        → StackBelongs nodes b (with_own_label l) held (Turning x y env ∷ k) (Join ∷ Looping (while_of c d) vals ∷ core_machine.Labelled ∷ ck)
+        → Coded b (with_own_label l) x env c vals → CodedBeside b (with_own_label l) y env d vals → StackBelongs nodes b l held k ck
+        → StackBelongs nodes b (with_own_label l) held (Turning x y env ∷ k) (Looping (while_of c d) vals ∷ core_machine.Labelled ∷ ck)
+    InEndless : (b : Bool) (l : Labels) (held : ℕ) (y : Exp) (env : Environment) (k : Stack) (d : core.Exp) (vals : List core_value.Value) (ck : List core_machine.Frame)
+        → CodedBeside b l y env d vals → StackBelongs nodes b l held k ck → StackBelongs nodes b l held (Turning truth y env ∷ k) (Looping (endless_of d) vals ∷ ck)
     InRepeating : (b : Bool) (l : Labels) (held : ℕ) (y x : Exp) (env : Environment) (k : Stack) (d c : core.Exp) (vals : List core_value.Value) (ck : List core_machine.Frame)
         → Coded b (with_own_label l) y env d vals → CodedBeside b (with_own_label l) x env c vals → StackBelongs nodes b l held k ck
         → StackBelongs nodes b (with_own_label l) held (Repeating y x env ∷ k) (Arguments (Bind (if_true c nothing (break_with nothing))) [] NoExp vals ∷ Looping (repeat_of d c) vals ∷ core_machine.Labelled ∷ ck)
@@ -302,7 +312,7 @@ module _ (table : List (Group Body)) (known : List Known) (globals : List core_v
     InTurn : (b : Bool) (l : Labels) (held : ℕ) (p : Pat) (e : Exp) (env : Environment) (v : Value) (k : Stack) (c : core.Exp) (w : core_value.Value) (vals : List core_value.Value) (ck : List core_machine.Frame)
         → Belongs known v w → CodedPattern b (with_own_label l) p e env c (w ∷ vals) → StackBelongs nodes b l held k ck
         → StackBelongs nodes b (with_own_label l) held (Switching (turn_cases p e) env ∷ Stepping p v e env ∷ k)
-        (Arguments (Match constructor.Present c (break_with nothing)) [] NoExp (w ∷ vals) ∷ Looping (turn_with c) (w ∷ vals) ∷ core_machine.Labelled ∷ ck)
+        (Arguments (Match constructor.Present (core.Name 0) (break_with nothing)) [] NoExp (w ∷ vals) ∷ Arguments (Bind c) [] NoExp (w ∷ vals) ∷ Looping (turn_with c) (w ∷ vals) ∷ core_machine.Labelled ∷ ck)
     InBody : (b : Bool) (l : Labels) (held : ℕ) (p : Pat) (e : Exp) (env inner : Environment) (v : Value) (k : Stack) (c : core.Exp) (w : core_value.Value) (vals : List core_value.Value) (joins ck : List core_machine.Frame)
         → Joins joins → Belongs known v w → CodedPattern b (with_own_label l) p e env c (w ∷ vals) → StackBelongs nodes b l held k ck
         → StackBelongs nodes b (with_own_label l) held (Switching body_cases inner ∷ Joining ∷ Stepping p v e env ∷ k) (joins ++ (Looping (turn_with c) (w ∷ vals) ∷ core_machine.Labelled ∷ ck))
@@ -324,6 +334,15 @@ module _ (table : List (Group Body)) (known : List Known) (globals : List core_v
     pub code : ElaboratesFunctions table (under (count fns) (scope places labels made.seen)) fns bodies
     pub names : EnvironmentBelongs known globals places env made.seen
 
+  -- one function of a group, made alone
+  pub record OneBelongs (fns : Functions) (i : ℕ) (env : Environment) (made : MadeGroup) : Type 0 where
+    pub places : List Place
+    pub labels : Labels
+    pub body : Body
+    pub there : slice_get table made.code ≡ Some (record { sees = length made.seen; bodies = body ∷ [] })
+    pub code : ElaboratesOne table (unseen (count fns) (scope places labels made.seen)) fns i body
+    pub names : EnvironmentBelongs known globals places env made.seen
+
   -- a built-in function as a value: a group of one function
   pub record MemberBelongs (m : Member) (holds : Values) (made : MadeGroup) : Type 0 where
     pub n : ℕ
@@ -334,6 +353,7 @@ module _ (table : List (Group Body)) (known : List Known) (globals : List core_v
 
   abbrev pub GroupBelongs : Known → MadeGroup → Type 0
   GroupBelongs (OfFunctions fns env) made = FunctionsBelong fns env made
+  GroupBelongs (OfOne fns i env) made = OneBelongs fns i env made
   GroupBelongs (OfMember m holds) made = MemberBelongs m holds made
 
   pub record GroupsBelong (made : List MadeGroup) : Type 0 where
@@ -425,8 +445,18 @@ module _ (program : Core) (context : Context) (nodes : ℕ) (world : World) (kno
         → Code b l e env c vals → Around b l held k ck → StateBelongs held (machine.Eval e env) k (core_machine.Eval c vals) ck
     -- a loop goes on
     AtWhile : (b : Bool) (l : Labels) (x y : Exp) (env : Environment) (k : Stack) (c d : core.Exp) (vals : List core_value.Value) (ck : List core_machine.Frame)
-        → Code b (with_own_label l) x env c vals → Code b (with_own_label l) y env d vals → Around b l held k ck
+        → Code b (with_own_label l) x env c vals → CodedBeside program.groups known context.globals b (with_own_label l) y env d vals → Around b l held k ck
         → StateBelongs held (machine.Eval (While x y) env) k (core_machine.Eval (while_of c d) vals) (Looping (while_of c d) vals ∷ core_machine.Labelled ∷ ck)
+    -- one without an end: again, and where its test is to come
+    AtEndless : (b : Bool) (l : Labels) (y : Exp) (env : Environment) (k : Stack) (d : core.Exp) (vals : List core_value.Value) (ck : List core_machine.Frame)
+        → CodedBeside program.groups known context.globals b l y env d vals → Around b l held k ck
+        → StateBelongs held (machine.Eval (While truth y) env) k (core_machine.Eval (endless_of d) vals) (Looping (endless_of d) vals ∷ ck)
+    AtTruth : (b : Bool) (l : Labels) (y : Exp) (env : Environment) (k : Stack) (d : core.Exp) (vals : List core_value.Value) (ck : List core_machine.Frame)
+        → CodedBeside program.groups known context.globals b l y env d vals → Around b l held k ck
+        → StateBelongs held (machine.Eval truth env) (Testing truth y env ∷ k) (core_machine.Eval nothing vals) (Arguments (Bind d) [] NoExp vals ∷ Looping (endless_of d) vals ∷ ck)
+    AtTrue : (b : Bool) (l : Labels) (y : Exp) (env : Environment) (k : Stack) (d : core.Exp) (vals : List core_value.Value) (ck : List core_machine.Frame)
+        → CodedBeside program.groups known context.globals b l y env d vals → Around b l held k ck
+        → StateBelongs held (machine.Give (leaf (part.Flag true))) (Testing truth y env ∷ k) (core_machine.Give unit) (Arguments (Bind d) [] NoExp vals ∷ Looping (endless_of d) vals ∷ ck)
     AtRepeat : (b : Bool) (l : Labels) (y x : Exp) (env : Environment) (k : Stack) (d c : core.Exp) (vals : List core_value.Value) (ck : List core_machine.Frame)
         → Code b (with_own_label l) y env d vals → CodedBeside program.groups known context.globals b (with_own_label l) x env c vals → Around b l held k ck
         → StateBelongs held (machine.Eval (Repeat y x) env) k (core_machine.Eval (repeat_of d c) vals) (Looping (repeat_of d c) vals ∷ core_machine.Labelled ∷ ck)
@@ -446,7 +476,7 @@ module _ (program : Core) (context : Context) (nodes : ℕ) (world : World) (kno
     AtGoing : (b : Bool) (l : Labels) (p : Pat) (e : Exp) (env : Environment) (v : Value) (k : Stack) (c : core.Exp) (w : core_value.Value) (vals : List core_value.Value) (ck : List core_machine.Frame)
         → Belongs known v w → CodedPattern program.groups known context.globals b (with_own_label l) p e env c (w ∷ vals) → Around b l held k ck
         → StateBelongs held (machine.Give v) (Going p e env ∷ k) (core_machine.Eval (next_of (core.Name 0)) (w ∷ vals))
-        (Arguments (Match constructor.Present c (break_with nothing)) [] NoExp (w ∷ vals) ∷ Looping (turn_with c) (w ∷ vals) ∷ core_machine.Labelled ∷ ck)
+        (Arguments (Match constructor.Present (core.Name 0) (break_with nothing)) [] NoExp (w ∷ vals) ∷ Arguments (Bind c) [] NoExp (w ∷ vals) ∷ Looping (turn_with c) (w ∷ vals) ∷ core_machine.Labelled ∷ ck)
     -- its end, where Core has left already
     AtLeft : (b : Bool) (l : Labels) (p : Pat) (e : Exp) (env : Environment) (v : Value) (k : Stack) (ck : List core_machine.Frame) (f : machine.Focus) (more : Stack)
         → Passing false (Stepping p v e env ∷ k) f more → Around b l held k ck → StateBelongs held f more (core_machine.Give unit) ck

@@ -1,5 +1,5 @@
 -- The functions behind the declarations of a well-typed program: methods, and hooks of upgrades.
-use Rattle.std.proofs.Common.{◌≡◌, suc, ◌+◌, ◌≤◌, false, List, [], ◌∷◌, ◌++◌, length, map, Some, refl, ap, subst}
+use Rattle.std.proofs.Common.{◌≡◌, suc, ◌≤◌, false, List, [], ◌∷◌, ◌++◌, length, map, Some, refl, ap, subst}
 use Rattle.mo_types.specs.declared.node.Sort.TheVariants as sort
 use Rattle.mo_types.specs.Sub.{Each}
 use Rattle.mo_types.specs.Graph.{Slot}

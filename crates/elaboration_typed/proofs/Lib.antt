@@ -1,3 +1,4 @@
-pub mod Steps
 pub mod Functions
+pub mod Names
 pub mod Standing
+pub mod Steps

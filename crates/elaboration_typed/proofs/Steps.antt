@@ -5,14 +5,14 @@ use Rattle.mo_types.specs.Graph.{Slot, head_at}
 use Rattle.typed_tree.specs.declared.action.Action.TheVariants as action
 use Rattle.typed_tree.specs.declared.expression.Form.{Form}
 use Rattle.typed_tree.specs.declared.expression.Form.TheOpen as F
-use Rattle.typed_tree.specs.declared.expression.Step.{Step, roll-Step, ind-Step}
+use Rattle.typed_tree.specs.declared.expression.Step.{Step, roll-Step, ind-Step, fold-roll-Step}
 use Rattle.typed_tree.specs.declared.expression.Case.{Case}
 use Rattle.typed_tree.specs.declared.expression.Function.{Function, roll-Function, ind-Function}
 use Rattle.typed_tree.specs.declared.expression.TypedExpression.{TypedExpression, roll-TypedExpression, ind-TypedExpression, fold-roll-TypedExpression}
 use Rattle.typed_tree.specs.declared.pattern.TypedPattern.{TypedPattern}
 use Rattle.typed_tree.specs.ActionTypes.{Context}
-use Rattle.typed_tree.specs.Language.{Exp, Functions, Do, Group, NoExp, AnExp, let_in}
-use Rattle.typed_tree.specs.Nodes.{StepNodes, in_patterns, in_expression}
+use Rattle.typed_tree.specs.Language.{Exp, Functions, NoFunction, Do, Group, NoExp, AnExp, let_in}
+use Rattle.typed_tree.specs.Nodes.{StepNodes, in_patterns, in_expression, in_step, in_list}
 use Rattle.typed_tree.specs.Nodes as nodes
 use Rattle.typed_tree.specs.Patterns.{Pat, Wildcard, Bind, NoPat}
 use Rattle.typed_tree.specs.PatternTypes.{AllStand}
@@ -20,12 +20,12 @@ use Rattle.typed_tree.specs.PatternView.{pattern, patterns}
 use Rattle.typed_tree.specs.Substitution.{count, group_nodes}
 use Rattle.typed_tree.specs.Typing.{Signature, with_names, GroupStands, Declares, IsFunctionOf}
 use Rattle.typed_tree.specs.TypingLaws.{step_typing, function_typing}
-use Rattle.typed_tree.specs.View.{FunctionView, StepView, group, kept_or, expression, declaration, function}
+use Rattle.typed_tree.specs.View.{FunctionView, StepView, group, block, kept_or, expression, declaration, function}
 use Rattle.typed_tree.specs.Wants.{Want}
 use Rattle.typed_tree.proofs.Rules as rules
 use Rattle.elaboration.specs.Checks.{Named}
 use Rattle.elaboration_premises.proofs.Trees.{step_view, step_viewed, function_viewed, bound_by}
-use Rattle.elaboration_starts.specs.Declarations.{bound_in}
+use Rattle.elaboration_starts.specs.Declarations.{DeclaresNothing, bound_in}
 use Rattle.elaboration_starts.proofs.DeclaredCode.{bound_many}
 
 -- ---- nodes
@@ -36,6 +36,33 @@ nodes_at x = subst (λ n. 1 ≤ n) (sym (fold-roll-TypedExpression ℕ StepNodes
 
 expression_nodes : (e : TypedExpression) → 1 ≤ in_expression e
 expression_nodes = ind-TypedExpression (λ x. Unit {0}) (λ x. Unit {0}) (λ x. Unit {0}) (λ x. Unit {0}) (λ e. 1 ≤ in_expression e) (λ x y is. tt) (λ x y is. tt) (λ x y is. tt) (λ x y is. tt) (λ x y is. nodes_at x)
+
+-- a declaration without a node is a group of no function
+step_at_nodes : (x : F.Step-F Form Step Case Function TypedExpression) → (in_step (roll-Step x)).own ≡ 0 → (e : Exp) → step_view x e ≡ Group NoFunction e
+unfolding in_step in_expression
+step_at_nodes (F.Let p y) h e = absurd (subst (λ (n : StepNodes). n.own ≡ 0 → ⊥) (sym (fold-roll-Step ℕ StepNodes ℕ ℕ ℕ nodes.form_step nodes.step_step nodes.case_step nodes.function_step nodes.expression_step (F.Let p y))) (λ q. omega (arith, q)) h)
+step_at_nodes (F.Var y) h e = absurd (subst (λ (n : StepNodes). n.own ≡ 0 → ⊥) (sym (fold-roll-Step ℕ StepNodes ℕ ℕ ℕ nodes.form_step nodes.step_step nodes.case_step nodes.function_step nodes.expression_step (F.Var y))) (λ q. omega (arith, q)) h)
+step_at_nodes (F.Stable i y) h e = absurd (subst (λ (n : StepNodes). n.own ≡ 0 → ⊥) (sym (fold-roll-Step ℕ StepNodes ℕ ℕ ℕ nodes.form_step nodes.step_step nodes.case_step nodes.function_step nodes.expression_step (F.Stable i y))) (λ q. omega (arith, q)) h)
+step_at_nodes (F.Functions []) h e = refl
+step_at_nodes (F.Functions (f ∷ fs)) h e = absurd (subst (λ (n : StepNodes). n.own ≡ 0 → ⊥) (sym (fold-roll-Step ℕ StepNodes ℕ ℕ ℕ nodes.form_step nodes.step_step nodes.case_step nodes.function_step nodes.expression_step (F.Functions (f ∷ fs)))) (λ q. omega (arith, q)) h)
+step_at_nodes (F.Evaluate y) h e =
+    absurd (subst (λ (n : StepNodes). n.own ≡ 0 → ⊥) (sym (fold-roll-Step ℕ StepNodes ℕ ℕ ℕ nodes.form_step nodes.step_step nodes.case_step nodes.function_step nodes.expression_step (F.Evaluate y)))
+    (λ q. let r : in_expression y ≡ 0 = q in let z : 1 ≤ in_expression y = expression_nodes y in omega (arith, r, z)) h)
+
+step_nodes : (s : Step) → (in_step s).own ≡ 0 → (e : Exp) → declaration s e ≡ Group NoFunction e
+step_nodes =
+    ind-Step (λ x. Unit {0}) (λ s. (in_step s).own ≡ 0 → (e : Exp) → declaration s e ≡ Group NoFunction e) (λ x. Unit {0}) (λ x. Unit {0}) (λ x. Unit {0}) (λ x y is. tt) (λ x y is h e. ap (λ d. d e) (step_viewed x) ∙ step_at_nodes x h e) (λ x y is. tt)
+    (λ x y is. tt) (λ x y is. tt)
+
+nothing_more : (e : Exp) → DeclaresNothing e → DeclaresNothing (Group NoFunction e)
+nothing_more (Group fns b) h = h
+nothing_more _ h = absurd h
+
+pub nothing_declared : (ds : List Step) → in_list ds ≡ 0 → (e : Exp) → DeclaresNothing e → DeclaresNothing (block (map declaration ds) e)
+nothing_declared [] h e i = i
+nothing_declared (d ∷ ds) h e i =
+    let x : (in_step d).own + in_list ds ≡ 0 = h in
+    subst DeclaresNothing (sym (step_nodes d (omega (arith, x)) (block (map declaration ds) e))) (nothing_more (block (map declaration ds) e) (nothing_declared ds (omega (arith, x)) e i))
 
 module _ (types : List Slot) where
   -- ---- functions

@@ -3,4 +3,4 @@
 
 mod laws;
 
-pub use laws::typed_actors_stand;
+pub use laws::{typed_actors_stand, typed_programs_are_named};

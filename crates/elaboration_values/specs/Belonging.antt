@@ -21,15 +21,19 @@ use Rattle.elaboration.specs.Scopes.{Place, Local, Own, Nowhere, place_or_nowher
 use Rattle.elaboration.specs.Checks.{locals}
 use Rattle.elaboration.specs.Meeting.{Reads, ReadEach, Extends}
 
--- what a group that Core made is: functions of the program with what stands around them, or a built-in function with what it holds
+-- what a group that Core made is: functions of the program with what stands around them, one function of a group alone, or a built-in function
+-- with what it holds
 pub data Known : Type 0 where
   OfFunctions : (functions : Functions) → (environment : Environment) → Known
+  OfOne : (functions : Functions) → (which : ℕ) → (environment : Environment) → Known
   OfMember : (member : Member) → (holds : Values) → Known
 
--- a built-in function is alone in its group
+-- a built-in function is alone in its group, as one function is
 abbrev pub code_in : Option Known → ℕ → Option Code
 code_in None n = None
 code_in (Some (OfFunctions fns env)) n = Some (ClosureCode fns n env)
+code_in (Some (OfOne fns i env)) zero = Some (ClosureCode fns i env)
+code_in (Some (OfOne fns i env)) (suc n) = None
 code_in (Some (OfMember m holds)) zero = Some (BuiltInCode m holds)
 code_in (Some (OfMember m holds)) (suc n) = None
 

@@ -121,7 +121,7 @@ module _ (p : Program) (lawful : IsLawful (running p.types).head) where
   hooking_grows answers more kinds longer e k l (Runs v b q h i) = Runs v b q (exports_grow p.types answers more k kinds longer l (program p) v h) ((results_kept (running p.types) [] lawful).grows answers more kinds longer b k l i)
   hooking_grows answers more kinds longer e k l (Ends v q h) = Ends v q (exports_grow p.types answers more k kinds longer l (program p) v h)
 
-  hooking_kept : IsKept (running p.types) U (AreExports p.types p)
+  pub hooking_kept : IsKept (running p.types) U (AreExports p.types p)
   hooking_kept = record {
     value = λ answers kinds v h. hooking_value answers kinds v h;
     grows = λ answers more kinds longer e k l h. hooking_grows answers more kinds longer e k l h;
