@@ -1,0 +1,5 @@
+pub mod Turned
+pub mod Settled
+pub mod Loaded
+pub mod Actors
+pub mod Runs
