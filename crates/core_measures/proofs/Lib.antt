@@ -1,0 +1,4 @@
+mod Bindings
+mod Deciding
+mod Places
+mod Views

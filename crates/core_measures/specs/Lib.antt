@@ -1,0 +1,4 @@
+pub mod Measures
+pub mod Naming
+pub mod Sizes
+pub mod Within
