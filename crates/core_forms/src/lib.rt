@@ -9,4 +9,6 @@ mod words;
 pub use bindings::{add_let, add_variable, bind_nearest, bind_parameters};
 pub use copies::{bytes_again, operation_again, types_again};
 pub use goals::goal_of;
-pub use words::{break_with, constant, if_true, labelled, looped, tried, turn, updated};
+pub use words::{
+    break_with, constant, element, if_true, labelled, looped, repeated, tried, updated,
+};

@@ -3,7 +3,6 @@ ghost use Rattle.std.specs.Prelude.{◌≡◌, map, IfOk};
 ghost use Rattle.typed_tree.specs.PatternView.{literal_value};
 ghost use Rattle.core_ir.specs.Expressions as tree;
 ghost use Rattle.core_ir.specs.View.{exps, expression, goal};
-ghost use Rattle.core_ir.specs.declared.primitive.Constructor.TheVariants as constructor;
 ghost use Rattle.core_ir.specs.declared.primitive.Primitive.TheVariants as primitive;
 ghost use Rattle.elaboration.specs.Elaboration as elaboration;
 ghost use Rattle.elaboration.specs.Members as members;
@@ -69,13 +68,19 @@ pub fn labelled(alloc: Global, place: Place, inner: Expression) -> Result<Expres
     Ok(Expression::Label(Node::new(alloc, place, inner)?))
 }
 
-/// Again and again, until a break leaves it.
+/// Again and again.
 #[tactic(auto, unfolding(core_ir::specs::View::expression))]
+pub fn repeated(alloc: Global, place: Place, body: Expression) -> Result<Expression, Memory>
+    ensures { IfOk result (λ made. expression made ≡ tree.Loop (expression body)) }
+{
+    Ok(Expression::Loop(Node::new(alloc, place, body)?))
+}
+
+/// Again and again, until a break leaves it.
 pub fn looped(alloc: Global, place: Place, body: Expression) -> Result<Expression, Memory>
     ensures { IfOk result (λ made. expression made ≡ tree.Label (tree.Loop (expression body))) }
 {
-    let body = Expression::Loop(Node::new(alloc, place, body)?);
-    labelled(alloc, place, body)
+    labelled(alloc, place, repeated(alloc, place, body)?)
 }
 
 /// `try a`, where the error is the nearest name in what comes then.
@@ -118,16 +123,16 @@ fn next_of(alloc: Global) -> Result<Expression, Memory>
     Ok(Expression::Do(Goal::Call, one(alloc, next)?))
 }
 
-/// One turn of a `for`: `next` of the object that is the nearest name, and then the body, or the end.
+/// The next element of the object that is the nearest name; where there is none, the nearest label is left.
 #[tactic(auto, unfolding(core_ir::specs::View::expression, core_ir::specs::View::goal))]
-pub fn turn(alloc: Global, place: Place, body: Expression) -> Result<Expression, Memory>
-    ensures { IfOk result (λ made. expression made ≡ tree.Do (tree.Match constructor.Present (expression body) (elaboration.break_with scopes.nothing)) (scopes.one (elaboration.next_of (tree.Name 0)))) }
+pub fn element(alloc: Global, place: Place) -> Result<Expression, Memory>
+    ensures { IfOk result (λ made. expression made ≡ elaboration.element_of) }
 {
     let ends = break_with(alloc, unit(alloc)?)?;
     let called = next_of(alloc)?;
     let matched = Goal::Match(
         Shared::new(alloc, Constructor::Present)?,
-        Node::new(alloc, place, body)?,
+        Node::new(alloc, place, nearest())?,
         Node::new(alloc, place, ends)?,
     );
     Ok(Expression::Do(matched, one(alloc, called)?))

@@ -2,5 +2,6 @@
 #![tactic(auto)]
 
 mod loops;
+mod truths;
 
 pub use loops::{attempt, choose, endless, for_each, label, repeat, update, while_loop};

@@ -15,11 +15,13 @@ ghost use Rattle.core_loops.specs.Shapes as shapes;
 ghost use Rattle.core_parts.specs.Elaborates.{Elaborates};
 ghost use Rattle.core_parts.specs.Making.{IsMade};
 
+use crate::truths::holds;
 use core_forms::{
-    bind_nearest, break_with, if_true, labelled, looped, operation_again, tried, turn, updated,
+    bind_nearest, break_with, element, if_true, labelled, looped, operation_again, repeated, tried,
+    updated,
 };
 use core_ir::Expression;
-use core_layers::{Fails, Layer, around, flag, let_in, operation, unit};
+use core_layers::{Fails, Layer, around, let_in, operation, unit};
 use core_parts::{Groups, Made, Part, Parts};
 use core_scopes::Scope;
 use mo_num::{Bytes, Memory};
@@ -30,18 +32,18 @@ use typed_tree::{TypedExpression, TypedPattern};
 
 // Turns that end where the condition is false.
 fn while_true(alloc: Global, place: Place, condition: Expression, body: Expression) -> Made
-    ensures { IfOk result (λ made. core_expression made ≡ tree.Label (tree.Loop (elaboration.if_true (core_expression condition) (core_expression body) (elaboration.break_with scopes.nothing)))) }
+    ensures { IfOk result (λ made. core_expression made ≡ elaboration.tested_loop (core_expression condition) (core_expression body)) }
 {
     let ends = break_with(alloc, unit(alloc)?)?;
-    looped(alloc, place, if_true(alloc, place, condition, body, ends)?)
+    let test = if_true(alloc, place, condition, unit(alloc)?, ends)?;
+    looped(alloc, place, let_in(alloc, place, test, body)?)
 }
 
-// Turns without end.
+// Turns without end, behind a name without use.
 fn without_end(alloc: Global, place: Place, body: Expression) -> Made
-    ensures { IfOk result (λ made. core_expression made ≡ members.let_in (tree.Label (tree.Loop (elaboration.if_true (checks.flag true) (core_expression body) (elaboration.break_with scopes.nothing)))) shapes.unreached) }
+    ensures { IfOk result (λ made. core_expression made ≡ tree.Loop (members.let_in scopes.nothing (core_expression body))) }
 {
-    let turns = while_true(alloc, place, flag(alloc, true)?, body)?;
-    let_in(alloc, place, turns, unreached(alloc)?)
+    repeated(alloc, place, let_in(alloc, place, unit(alloc)?, body)?)
 }
 
 // Turns that end where the condition behind them is false.
@@ -64,7 +66,8 @@ fn each_element(
     ensures { IfOk result (λ made. core_expression made ≡ members.let_in (core_expression of) (tree.Label (tree.Loop (shapes.turn (layered layers.items checks.fails (core_expression body)))))) }
 {
     let body = around(alloc, place, layers, Fails::Traps, body)?;
-    let turns = looped(alloc, place, turn(alloc, place, body)?)?;
+    let turn = let_in(alloc, place, element(alloc, place)?, body)?;
+    let turns = looped(alloc, place, turn)?;
     let_in(alloc, place, of, turns)
 }
 
@@ -130,12 +133,35 @@ pub fn while_loop<F: Fn(&mut Scope, &mut Groups, Part<'_>) -> Made>(
     ensures made { IfOk result (λ made. IsMade (elaboration.elaborate scope.old (length groups.old) (source.While (expression condition.now) (expression body.now))) groups.old groups.new made) }
     ensures scope { OnOk result (scope.new ≡ scope.old) }
 {
+    if holds(condition) {
+        return turns(parts, scope, groups, place, body);
+    }
     let mark = scope.mark();
     scope.go_inside()?;
     let condition = parts.part(scope, groups, condition)?;
+    scope.go_beside(1)?;
     let body = parts.part(scope, groups, body)?;
     scope.back(mark);
     while_true(parts.alloc, place, condition, body)
+}
+
+// Turns without end.
+fn turns<F: Fn(&mut Scope, &mut Groups, Part<'_>) -> Made>(
+    parts: &Parts<F>,
+    scope: &mut Scope,
+    groups: &mut Groups,
+    place: Place,
+    body: &TypedExpression,
+) -> Made
+    requires { Elaborates parts.now.depth (F.pre parts.now.elaborate) (F.post parts.now.elaborate) }
+    ensures made { IfOk result (λ made. IsMade (shapes.turns scope.old (length groups.old) (expression body.now)) groups.old groups.new made) }
+    ensures scope { OnOk result (scope.new ≡ scope.old) }
+{
+    let mark = scope.mark();
+    scope.go_beside(1)?;
+    let body = parts.part(scope, groups, body)?;
+    scope.back(mark);
+    without_end(parts.alloc, place, body)
 }
 
 /// `loop b`: a loop whose end is not reached, in the place of an expression of any type.
@@ -150,11 +176,15 @@ pub fn endless<F: Fn(&mut Scope, &mut Groups, Part<'_>) -> Made>(
     ensures made { IfOk result (λ made. IsMade (elaboration.elaborate scope.old (length groups.old) (view.endless (expression body.now))) groups.old groups.new made) }
     ensures scope { OnOk result (scope.new ≡ scope.old) }
 {
-    let mark = scope.mark();
-    scope.go_inside()?;
-    let body = parts.part(scope, groups, body)?;
-    scope.back(mark);
-    without_end(parts.alloc, place, body)
+    let turns = turns(parts, scope, groups, place, body)?;
+    behind_turns(parts.alloc, place, turns)
+}
+
+// What stands behind turns without end is not reached.
+fn behind_turns(alloc: Global, place: Place, turns: Expression) -> Made
+    ensures { IfOk result (λ made. core_expression made ≡ members.let_in (core_expression turns) shapes.unreached) }
+{
+    let_in(alloc, place, turns, unreached(alloc)?)
 }
 
 /// `loop b while c`
