@@ -44,5 +44,5 @@ pub stands_more : (tokens : List Token) (n : ℕ) (x : Token) (s s' : State) →
     s' ≡ behind_token s x.kind → s' ≡ behind_tokens (take (n + 1) tokens)
 stands_more tokens n x s s' lt is stands stepped = stepped ∙ ap (λ z. behind_token z x.kind) stands ∙ behind_more tokens n x lt is
 
-pub held_more : (tokens : List Token) (n : ℕ) (s : State) → s ≡ behind_tokens (take n tokens) → room s ≤ 2000 → AreHeld n tokens → AreHeld (n + 1) tokens
-held_more tokens n s stands small first = below_more (λ i. room_at i tokens ≤ 2000) n first (subst (λ z. room z ≤ 2000) stands small)
+pub held_more : (tokens : List Token) (n : ℕ) (s : State) → s ≡ behind_tokens (take n tokens) → room s ≤ 1500 → AreHeld n tokens → AreHeld (n + 1) tokens
+held_more tokens n s stands small first = below_more (λ i. room_at i tokens ≤ 1500) n first (subst (λ z. room z ≤ 1500) stands small)

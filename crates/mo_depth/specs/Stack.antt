@@ -168,6 +168,6 @@ behind_tokens tokens = fold (λ s x. behind_token s x.kind) begin tokens
 abbrev pub room_at : ℕ → List Token → ℕ
 room_at n tokens = room (behind_tokens (take n tokens))
 
--- at each of the first tokens it is at most 2,000
+-- at each of the first tokens it is at most 1,500
 abbrev pub AreHeld : ℕ → List Token → Type 0
-AreHeld n tokens = (i : ℕ) → i < n → room_at i tokens ≤ 2000
+AreHeld n tokens = (i : ℕ) → i < n → room_at i tokens ≤ 1500

@@ -13,7 +13,7 @@ use std::alloc::Global;
 use std::collections::VecDeque;
 
 /// The most room.
-const MOST: usize = 2_000;
+const MOST: usize = 1_500;
 
 fn closes(bracket: &Bracket, mark: Mark) -> bool
     ensures { result ≡ spec.closes bracket.now mark }
@@ -49,7 +49,7 @@ impl Room {
     }
 
     fn is_there(&self) -> bool
-        ensures { result ≡ nat_le (spec.room (state self.now)) 2000 }
+        ensures { result ≡ nat_le (spec.room (state self.now)) 1500 }
     {
         let most = most(&self.inner);
         most <= MOST && self.around <= MOST - most
@@ -57,13 +57,13 @@ impl Room {
 
     /// Asks whether there is so much room.
     pub(crate) fn ask(&self) -> Result<(), Memory>
-        ensures { OnOk result (spec.room (state self.now) ≤ 2000) }
+        ensures { OnOk result (spec.room (state self.now) ≤ 1500) }
     {
         if self.is_there() { Ok(()) } else { Err(Memory) }
     }
 
     fn open(&mut self, close: Mark) -> Result<(), Memory>
-        requires { spec.room (state self.old) ≤ 2000 }
+        requires { spec.room (state self.old) ≤ 1500 }
         ensures { OnOk result (state self.new ≡ spec.opened (state self.old) close) }
     {
         self.outer.push_front(self.inner)?;
@@ -79,7 +79,7 @@ impl Room {
     }
 
     fn begin(&mut self, room: u32)
-        requires there { spec.room (state self.old) ≤ 2000 }
+        requires there { spec.room (state self.old) ≤ 1500 }
         requires small { room ≤ 2 }
         ensures { state self.new ≡ spec.begun (state self.old) room }
     {
@@ -93,14 +93,14 @@ impl Room {
     }
 
     fn go_on(&mut self)
-        requires { spec.room (state self.old) ≤ 2000 }
+        requires { spec.room (state self.old) ≤ 1500 }
         ensures { state self.new ≡ spec.gone_on (state self.old) }
     {
         self.inner.operand += 1;
     }
 
     fn separate(&mut self)
-        requires { spec.room (state self.old) ≤ 2000 }
+        requires { spec.room (state self.old) ≤ 1500 }
         ensures { state self.new ≡ spec.separated (state self.old) }
     {
         self.inner = Bracket {
@@ -114,7 +114,7 @@ impl Room {
 
     // Behind the innermost bracket, with which an operand goes on that takes so much room beside.
     fn leave(&mut self, room: u32) -> Result<(), Memory>
-        requires { spec.room (state self.old) ≤ 2000 }
+        requires { spec.room (state self.old) ≤ 1500 }
         ensures { OnOk result (state self.new ≡ spec.left (state self.old) room) }
     {
         if let Some(bracket) = self.outer.pop_front() {
@@ -135,7 +135,7 @@ impl Room {
     }
 
     fn close(&mut self, mark: Mark) -> Result<(), Memory>
-        requires { spec.room (state self.old) ≤ 2000 }
+        requires { spec.room (state self.old) ≤ 1500 }
         ensures { OnOk result (state self.new ≡ spec.closed (state self.old) mark) }
     {
         if closes(&self.inner, mark) {
@@ -148,7 +148,7 @@ impl Room {
     // Out of each `<` that stands open in the innermost bracket `( [ {`, or in the whole text.
     fn leave_angles(&mut self) -> Result<(), Memory>
         ensures at { OnOk result (state self.new ≡ spec.outside_angles (state self.old)) }
-        ensures there { OnOk result (spec.room (state self.new) ≤ 2000) }
+        ensures there { OnOk result (spec.room (state self.new) ≤ 1500) }
     {
         for _turn in 0..self.outer.len() {
             self.ask()?;
@@ -161,9 +161,9 @@ impl Room {
     }
 
     fn before(&mut self, kind: &TokenKind) -> Result<(), Memory>
-        requires { spec.room (state self.old) ≤ 2000 }
+        requires { spec.room (state self.old) ≤ 1500 }
         ensures at { OnOk result (state self.new ≡ spec.before_mark (state self.old) kind.now) }
-        ensures there { OnOk result (spec.room (state self.new) ≤ 2000) }
+        ensures there { OnOk result (spec.room (state self.new) ≤ 1500) }
     {
         if ends_angles(kind) {
             return self.leave_angles();
@@ -172,7 +172,7 @@ impl Room {
     }
 
     fn step(&mut self, effect: Effect) -> Result<(), Memory>
-        requires there { spec.room (state self.old) ≤ 2000 }
+        requires there { spec.room (state self.old) ≤ 1500 }
         requires small { spec.IsSmall effect }
         ensures { OnOk result (state self.new ≡ spec.step (state self.old) effect) }
     {
@@ -189,7 +189,7 @@ impl Room {
 
     /// Goes behind the token.
     pub(crate) fn take(&mut self, kind: &TokenKind) -> Result<(), Memory>
-        requires { spec.room (state self.old) ≤ 2000 }
+        requires { spec.room (state self.old) ≤ 1500 }
         ensures { OnOk result (state self.new ≡ spec.behind_token (state self.old) kind.now) }
     {
         self.before(kind)?;
