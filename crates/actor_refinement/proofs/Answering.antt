@@ -34,7 +34,7 @@ use Rattle.actor_refinement.proofs.OpenCalls.{Finds, find_open, open_set, length
 use Rattle.actor_refinement.proofs.Incoming.{incoming_at, incoming_kept}
 use Rattle.actor_refinement.proofs.Finishing.{Tied, Same, close_same, MayChange, may_change, left_of, finish_same, Lifted}
 
-module _ {L : Language} (Related : CommittedState L → Canister → List OpenCall → Type 0) where
+module _ {L : Language} (Related : (charged : ℕ) → CommittedState L → Canister → List OpenCall → Type 0) where
   module _ (Stable : L.kept → List ℕ → Type 0) (Given : Event → Type 0) (pays : Measure) (limits : ExecutionLimits) (own : List ℕ) (p : Program L) (m : Module) (simulates : Simulates Related Stable Given pays limits own p m) where
     abbrev after_callback : Canister → OpenCall → HostState → End → HostOutcome
     after_callback c o s (Finishes store) = finish o.owner (left_by c.code store) store.world s
@@ -98,7 +98,7 @@ module _ {L : Language} (Related : CommittedState L → Canister → List OpenCa
       filled_agrees = still_agrees a s r.agrees number (Answered value_now) refl r.agrees.canister rest r.agrees.there refl refl refl a.activations r.agrees.incoming
 
       broken_tied : (w : Option L.waiting) → waiting_on number (activation_at a.activations call.owner) ≡ w → (store : Store World)
-          → Related (committed_state (broken_by number call.owner a w)) (left_by r.agrees.canister.code store) (others_open number s.waiting)
+          → Related (broken_by number call.owner a w).charged (committed_state (broken_by number call.owner a w)) (left_by r.agrees.canister.code store) (others_open number s.waiting)
           → Tied Related (broken_by number call.owner a w) (with_canister rest (left_by r.agrees.canister.code store))
       broken_tied None e store h = record {
         agrees = still_agrees a s r.agrees number Lost refl (left_by r.agrees.canister.code store) (with_canister rest (left_by r.agrees.canister.code store)) refl refl refl refl a.activations r.agrees.incoming;

@@ -29,7 +29,7 @@ use Rattle.actor_refinement.specs.Simulates.{world_of, SameMethod, StatesRelate,
 use Rattle.actor_refinement.proofs.Incoming.{get_last, incoming_counted}
 use Rattle.actor_refinement.proofs.Finishing.{Tied, Same, after_method, enters_by, came_update, answered_quiet, came_query, arrived_related, Lifted}
 
-module _ {L : Language} (Related : CommittedState L → Canister → List OpenCall → Type 0) where
+module _ {L : Language} (Related : (charged : ℕ) → CommittedState L → Canister → List OpenCall → Type 0) where
   module _ (Stable : L.kept → List ℕ → Type 0) (Given : Event → Type 0) (pays : Measure) (limits : ExecutionLimits) (own : List ℕ) (p : Program L) (m : Module) (simulates : Simulates Related Stable Given pays limits own p m) where
     no_method : (a : Actor L) (s : HostState) → Tied Related (arrived a) s → Lifted Related (λ o. o ≡ rejected (length a.activations) 5 (codes "no method") [] (arrived a)) (refuse (length a.activations) 5 (codes "no method") s)
     no_method a s r =

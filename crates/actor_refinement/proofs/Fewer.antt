@@ -9,13 +9,10 @@ use Rattle.canister_host.specs.State.{HostState}
 use Rattle.canister_host.specs.Execution.{End, Finishes, Breaks}
 use Rattle.canister_host.specs.HostRun.{step}
 use Rattle.mo_actor.specs.Languages.{Language}
-use Rattle.mo_actor.specs.Executions.{Execution}
 use Rattle.mo_actor.specs.Programs.{Program}
 use Rattle.mo_actor.specs.Measures.{Exhaustion, Measure}
-use Rattle.mo_actor.specs.Results.{Result, Completed, Trapped, Exhausted, HasResult, exhaustion}
+use Rattle.mo_actor.specs.Results.{Result, Completed, Trapped, Exhausted}
 use Rattle.mo_actor.specs.States.{Actor}
-use Rattle.mo_actor.specs.Outcomes.{Outcome}
-use Rattle.mo_actor.specs.Courses.{Course, Over, Runs, NoCourse, ComesTo}
 use Rattle.mo_actor.specs.Upgrades.{saving}
 use Rattle.mo_actor.specs.Steps.{life_course}
 use Rattle.mo_actor.proofs.Looser.{looser_result, looser_course}

@@ -64,10 +64,10 @@ pub enters_by : (limits : ExecutionLimits) (own : List ℕ) (c : Canister) (k : 
 enters_by limits own c k keeps f owner argument s (Finishes store) e = rw e refl
 enters_by limits own c k keeps f owner argument s (Breaks cause prints) e = rw e refl
 
-module _ {L : Language} (Related : CommittedState L → Canister → List OpenCall → Type 0) where
+module _ {L : Language} (Related : (charged : ℕ) → CommittedState L → Canister → List OpenCall → Type 0) where
   pub record Tied (a : Actor L) (s : HostState) : Type 0 where
     pub agrees : Agrees a s
-    pub related : Related (committed_state a) agrees.canister s.waiting
+    pub related : Related a.charged (committed_state a) agrees.canister s.waiting
 
   -- The same items, and related states.
   abbrev pub Same : Outcome (Actor L) → HostOutcome → Type 0
@@ -90,7 +90,7 @@ module _ {L : Language} (Related : CommittedState L → Canister → List OpenCa
       calls = r.agrees.calls;
       made = r.agrees.made;
     };
-    related = subst (λ h. Related (record { store = a.store; first = a.table.first; calls = h }) r.agrees.canister s.waiting) (sym (held_closed a.table.first owner a.table.calls a.activations IsAnswered none)) r.related;
+    related = subst (λ h. Related a.charged (record { store = a.store; first = a.table.first; calls = h }) r.agrees.canister s.waiting) (sym (held_closed a.table.first owner a.table.calls a.activations IsAnswered none)) r.related;
   }
 
   closed_same : (b : Bool) (a : Actor L) (s : HostState) (owner : ℕ) (items shown : List Item) → items ≡ shown → Tied a s → (b ≡ true → owns_open a.table owner ≡ false)
@@ -129,10 +129,10 @@ module _ {L : Language} (Related : CommittedState L → Canister → List OpenCa
 
     left_related : (ending : Ending L) (now : HostState) → now.canister ≡ Some c → now.made ≡ s.made + length performed → now.waiting ≡ s.waiting ++ numbered owner s.made performed
         → SameIncoming (slice_set a.activations owner (activation_after ending (activation_at a.activations owner))) now.incoming
-        → Related (committed_state (committed owner weight (left_of store calls ending) a)) c (s.waiting ++ numbered owner s.made performed) → Tied (committed owner weight (left_of store calls ending) a) now
+        → Related (committed owner weight (left_of store calls ending) a).charged (committed_state (committed owner weight (left_of store calls ending) a)) c (s.waiting ++ numbered owner s.made performed) → Tied (committed owner weight (left_of store calls ending) a) now
     left_related ending now there made waiting activations h = record {
       agrees = record { canister = c; there = there; incoming = activations; calls = ap (map owner_of) waiting ∙ calls_now; made = made_now ∙ sym made };
-      related = subst (Related (committed_state (committed owner weight (left_of store calls ending) a)) c) (sym waiting) h;
+      related = subst (Related (committed owner weight (left_of store calls ending) a).charged (committed_state (committed owner weight (left_of store calls ending) a)) c) (sym waiting) h;
     }
 
     abbrev AfterAnswer : Ending L → Option Answer → Type 0
@@ -140,7 +140,7 @@ module _ {L : Language} (Related : CommittedState L → Canister → List OpenCa
         × Tied (committed owner weight (left_of store calls ending) a) (if_answer owner answer (host_left s c owner performed))
 
     after_answer : (ending : Ending L) (answer : Option Answer) → SameAnswer ending answer → MayChange ending (activation_at a.activations owner)
-        → Related (committed_state (committed owner weight (left_of store calls ending) a)) c (s.waiting ++ numbered owner s.made performed) → AfterAnswer ending answer
+        → Related (committed owner weight (left_of store calls ending) a).charged (committed_state (committed owner weight (left_of store calls ending) a)) c (s.waiting ++ numbered owner s.made performed) → AfterAnswer ending answer
     after_answer (Answers (Replies bytes)) None is l h = absurd (cc)
     after_answer (Answers (Replies bytes)) (Some x) is l h =
         let e : x ≡ Replied bytes = cc in
@@ -165,7 +165,7 @@ module _ {L : Language} (Related : CommittedState L → Canister → List OpenCa
   finish_same a s agrees owner weight prints left store e t l =
       let c : Canister = left_by agrees.canister.code store in
       let performed : List PerformedCall = store.world.performed in
-      let holds : Related (committed_state (committed owner weight left a)) c (s.waiting ++ numbered owner s.made performed) = subst (λ n. Related (committed_state (committed owner weight left a)) c (s.waiting ++ numbered owner n performed)) agrees.made t.related in
+      let holds : Related (committed owner weight left a).charged (committed_state (committed owner weight left a)) c (s.waiting ++ numbered owner s.made performed) = subst (λ n. Related (committed owner weight left a).charged (committed_state (committed owner weight left a)) c (s.waiting ++ numbered owner n performed)) agrees.made t.related in
       let x : AfterAnswer a s agrees owner weight left.store left.calls performed c t.calls left.ending store.world.answer =
       after_answer a s agrees owner weight left.store left.calls performed c t.calls left.ending store.world.answer t.answer l holds in
       let calls : call_items (next_number a.table) left.calls ≡ map call_item (numbered owner s.made performed) = ap (λ n. call_items n left.calls) agrees.made ∙ calls_shown s.made owner left.calls performed t.calls in
@@ -177,7 +177,7 @@ module _ {L : Language} (Related : CommittedState L → Canister → List OpenCa
 
   -- ---- methods
 
-  pub came_update : (a : Actor L) (s : HostState) (agrees : Agrees a s) (owner : ℕ) → Related (committed_state a) agrees.canister s.waiting → is_answered (activation_at a.activations owner) ≡ false → (r : Result (Effects L)) (e : End)
+  pub came_update : (a : Actor L) (s : HostState) (agrees : Agrees a s) (owner : ℕ) → Related a.charged (committed_state a) agrees.canister s.waiting → is_answered (activation_at a.activations owner) ≡ false → (r : Result (Effects L)) (e : End)
       → EndsAlike (CommitsAlike Related a owner agrees.canister s.waiting) r e → Same (update_outcome owner a r) (after_method false agrees.canister owner s e)
   came_update a s agrees owner h l (Completed prints weight left) (Finishes store) c = finish_same a s agrees owner weight prints left store c.0 c.1 (may_change left.ending (activation_at a.activations owner) l)
   came_update a s agrees owner h l (Completed prints weight left) (Breaks cause shown) c = absurd c
@@ -198,7 +198,7 @@ module _ {L : Language} (Related : CommittedState L → Canister → List OpenCa
       calls = r.agrees.calls;
       made = r.agrees.made;
     };
-    related = subst (λ h. Related (record { store = a.store; first = a.table.first; calls = h }) r.agrees.canister s.waiting)
+    related = subst (λ h. Related a.charged (record { store = a.store; first = a.table.first; calls = h }) r.agrees.canister s.waiting)
         (sym (held_quiet a.table.first owner a.table.calls a.activations IsAnswered (λ k. sym (ap (waiting_on k) dead)))) r.related;
   }
 
@@ -212,7 +212,7 @@ module _ {L : Language} (Related : CommittedState L → Canister → List OpenCa
       calls = ap (map owner_of) (append-nil s.waiting) ∙ r.agrees.calls;
       made = r.agrees.made ∙ omega arith;
     };
-    related = subst (Related (committed_state a) r.agrees.canister) (sym (append-nil s.waiting)) r.related;
+    related = subst (Related a.charged (committed_state a) r.agrees.canister) (sym (append-nil s.waiting)) r.related;
   }
 
   query_answered : (a : Actor L) (s : HostState) (owner : ℕ) → Tied a s → activation_at a.activations owner ≡ IsDead → (ending : Ending L) (answer : Option Answer) → SameAnswer ending answer
@@ -260,7 +260,7 @@ module _ {L : Language} (Related : CommittedState L → Canister → List OpenCa
       calls = r.agrees.calls;
       made = r.agrees.made;
     };
-    related = subst (λ h. Related (record { store = a.store; first = a.table.first; calls = h }) r.agrees.canister s.waiting) (sym (held_pushed a.table.first a.table.calls a.activations)) r.related;
+    related = subst (λ h. Related a.charged (record { store = a.store; first = a.table.first; calls = h }) r.agrees.canister s.waiting) (sym (held_pushed a.table.first a.table.calls a.activations)) r.related;
   }
 
   -- The host's outcome is one of the actor's.

@@ -29,7 +29,7 @@ use Rattle.actor_refinement.proofs.Finishing.{Tied, Lifted}
 use Rattle.actor_refinement.proofs.Calling.{call_lift}
 use Rattle.actor_refinement.proofs.Answering.{answer_lift}
 
-module _ {L : Language} (Related : CommittedState L → Canister → List OpenCall → Type 0) where
+module _ {L : Language} (Related : (charged : ℕ) → CommittedState L → Canister → List OpenCall → Type 0) where
   module _ (Stable : L.kept → List ℕ → Type 0) (Given : Event → Type 0) (pays : Measure) (limits : ExecutionLimits) (own : List ℕ) (p : Program L) (m : Module) (simulates : Simulates Related Stable Given pays limits own p m) where
     event_lift : (a : Actor L) (s : HostState) → Tied Related a s → (e : Event) → IsInLife e → Given e → Lifted Related (λ o. LifeStep pays p own e a o) (step [] limits own e s)
     event_lift a s r (event.Install number) life given = absurd life
@@ -46,7 +46,7 @@ module _ {L : Language} (Related : CommittedState L → Canister → List OpenCa
       saves = λ number given. simulates.saves number given a r.agrees.canister s.waiting (record { calls = r.agrees.calls; related = r.related });
     }
 
-    related_first : (made weight : ℕ) (store : L.store) (activations : List (Activation L)) (calls : List IncomingCall) (c : Canister) → SameIncoming activations calls → Related (fresh_state store made) c []
+    related_first : (made weight : ℕ) (store : L.store) (activations : List (Activation L)) (calls : List IncomingCall) (c : Canister) → SameIncoming activations calls → Related weight (fresh_state store made) c []
         → Tied Related (started made activations store weight) (record { canister = Some c; incoming = calls; made = made; waiting = [] })
     related_first made weight store activations calls c same h = record {
       agrees = record { canister = c; there = refl; incoming = same; calls = refl; made = omega arith };
@@ -54,7 +54,7 @@ module _ {L : Language} (Related : CommittedState L → Canister → List OpenCa
     }
 
     starts : (kept : Option L.kept) (r : Result L.store) (e : End) → HasResult pays p.first_memory 0 (p.start own kept) r
-        → EndsAlike (λ weight store left. (made : ℕ) → Related (fresh_state store made) (left_by m left) []) r e → Starts Stable Given pays limits own p m kept e
+        → EndsAlike (λ weight store left. (made : ℕ) → Related weight (fresh_state store made) (left_by m left) []) r e → Starts Stable Given pays limits own p m kept e
     starts kept (Completed prints weight store) (Finishes left) has c = (
       Completed prints weight store,
       has,
@@ -71,7 +71,7 @@ module _ {L : Language} (Related : CommittedState L → Canister → List OpenCa
     starts kept (Exhausted prints w) (Breaks cause shown) has c = (Exhausted prints w, has, c)
 
 -- From single executions to whole lives.
-pub refines : {L : Language} (Related : ExecutionLimits → List ℕ → CommittedState L → Canister → List OpenCall → Type 0) (Stable : L.kept → List ℕ → Type 0) (Given : Event → Type 0) (pays : ExecutionLimits → Measure) (p : Program L) (m : Module)
+pub refines : {L : Language} (Related : ExecutionLimits → List ℕ → (charged : ℕ) → CommittedState L → Canister → List OpenCall → Type 0) (Stable : L.kept → List ℕ → Type 0) (Given : Event → Type 0) (pays : ExecutionLimits → Measure) (p : Program L) (m : Module)
     → ((limits : ExecutionLimits) → IsWithin limits → (own : List ℕ) → IsPrincipal own → Simulates (Related limits own) Stable Given (pays limits) limits own p m) → Refines Stable Given pays p m
 refines Related Stable Given pays p m simulates = record {
   installs = λ limits within own self. let s = simulates limits within own self in

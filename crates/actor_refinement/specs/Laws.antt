@@ -50,9 +50,9 @@ module _ (L : Language) (pays : ExecutionLimits → Measure) where
   -- A module whose single executions come out as a program's do refines the program.
   abbrev pub SimulationsRefine : Type 0
   SimulationsRefine =
-      (stable : L.kept → List ℕ → Bool) (given : Event → Bool) (related : ExecutionLimits → List ℕ → CommittedState L → Canister → List OpenCall → Bool) (p : Program L) (m : Module)
+      (stable : L.kept → List ℕ → Bool) (given : Event → Bool) (related : ExecutionLimits → List ℕ → (charged : ℕ) → CommittedState L → Canister → List OpenCall → Bool) (p : Program L) (m : Module)
       → ((limits : ExecutionLimits) → IsWithin limits → (own : List ℕ) → IsPrincipal own
-      → Simulates (λ state c waiting. related limits own state c waiting ≡ true) (λ kept memory. stable kept memory ≡ true) (SoundAnd given) (pays limits) limits own p m)
+      → Simulates (λ charged state c waiting. related limits own charged state c waiting ≡ true) (λ kept memory. stable kept memory ≡ true) (SoundAnd given) (pays limits) limits own p m)
       → Refines (λ kept memory. stable kept memory ≡ true) (SoundAnd given) pays p m
 
   -- Where each module of a list refines the program in its place, the host's run over the modules is a run of the actors of

@@ -1,5 +1,5 @@
 -- Where each single execution of a module comes out as one of a program, from committed states that are related to related
--- ones. Numbers of incoming calls, who was answered, starved calls, ignored answers, the order of items and upgrades that
+-- ones, with the weight that was charged, which bounds what a heap may hold. Numbers of incoming calls, who was answered, starved calls, ignored answers, the order of items and upgrades that
 -- fail are not spoken of here: all that follows.
 use Rattle.std.specs.Prelude.{◌≡◌, ⊤, ℕ, List, [], ◌∷◌, ◌++◌, length, map, Option, Some, None, Bool, true, false, not, nat_eq, find}
 use Rattle.std.specs.List.{filter}
@@ -78,17 +78,17 @@ module _ {L : Language} where
       callback_end limits c (callback_kind (host_received received)) (callback_of (host_received received) o.call)
       (received_world (host_received received) (world_of limits own c caller [] (is_answered (activation_at a.activations call.owner)) (length (others_open number waiting))))
 
-  -- Related ties a committed state to a canister and its open calls.
-  module _ (Related : CommittedState L → Canister → List OpenCall → Type 0) where
+  -- Related ties what was charged to an actor and its committed state to a canister and its open calls.
+  module _ (Related : (charged : ℕ) → CommittedState L → Canister → List OpenCall → Type 0) where
     pub record StatesRelate (a : Actor L) (c : Canister) (waiting : List OpenCall) : Type 0 where
       pub calls : map owner_of waiting ≡ open_owners a.table.first a.table.calls
-      pub related : Related (committed_state a) c waiting
+      pub related : Related a.charged (committed_state a) c waiting
 
     -- What is taken over: the calls and the answer are the same, and the states are related again.
     pub record CommitsAlike (a : Actor L) (owner : ℕ) (c : Canister) (waiting : List OpenCall) (weight : ℕ) (effects : Effects L) (store : Store World) : Type 0 where
       pub calls : SameCalls effects.calls store.world.performed
       pub answer : SameAnswer effects.ending store.world.answer
-      pub related : Related (committed_state (committed owner weight effects a)) (left_by c.code store) (waiting ++ numbered owner (next_number a.table) store.world.performed)
+      pub related : Related (committed owner weight effects a).charged (committed_state (committed owner weight effects a)) (left_by c.code store) (waiting ++ numbered owner (next_number a.table) store.world.performed)
 
     -- The cleanup behind a callback that trapped comes to an end, prints nothing, and leaves what the trap leaves.
     pub record CleansUp (limits : ExecutionLimits) (own : List ℕ) (a : Actor L) (c : Canister) (waiting : List OpenCall) (number : ℕ) (call : Call L.results L.value) (o : OpenCall) (caller : List ℕ) : Type 0 where
@@ -98,15 +98,15 @@ module _ {L : Language} where
       pub ends : callback_end limits c kind.Cleanup callback
           (world_of limits own c caller [] (is_answered (activation_at a.activations call.owner)) (length (others_open number waiting))) ≡ Finishes store
       pub quiet : store.world.prints ≡ []
-      pub related : Related (committed_state (broken number call.owner a)) (left_by c.code store) (others_open number waiting)
+      pub related : Related (broken number call.owner a).charged (committed_state (broken number call.owner a)) (left_by c.code store) (others_open number waiting)
 
     -- Each execution of the module comes out as one of the program.
     pub record Simulates (Stable : L.kept → List ℕ → Type 0) (Given : Event → Type 0) (pays : Measure) (limits : ExecutionLimits) (own : List ℕ) (p : Program L) (m : Module) : Type 0 where
       pub installs : (r : Result L.store) × HasResult pays p.first_memory 0 (p.start own None) r
-          × EndsAlike (λ weight store left. (made : ℕ) → Related (fresh_state store made) (left_by m left) []) r (install_end limits own m)
+          × EndsAlike (λ weight store left. (made : ℕ) → Related weight (fresh_state store made) (left_by m left) []) r (install_end limits own m)
       pub upgrades : (number : ℕ) → Given (event.Upgrade number) → (kept : Option L.kept) (stable : List ℕ) → Keeps Stable kept stable
           → (r : Result L.store) × HasResult pays p.first_memory 0 (p.start own kept) r
-          × EndsAlike (λ weight store left. (made : ℕ) → Related (fresh_state store made) (left_by m left) []) r (upgrade_end limits own m stable)
+          × EndsAlike (λ weight store left. (made : ℕ) → Related weight (fresh_state store made) (left_by m left) []) r (upgrade_end limits own m stable)
       pub updates : (a : Actor L) (c : Canister) (waiting : List OpenCall) → StatesRelate a c waiting → (name : List ℕ)
           → SameMethod (λ method function. (caller argument : List ℕ) → Given (event.Call false name caller argument)
           → (r : Result (Effects L)) × HasResult pays p.first_memory a.charged (entered p own a method caller argument) r

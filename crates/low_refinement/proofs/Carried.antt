@@ -56,10 +56,10 @@ same_method P Q None (Some f) h s = s
 same_method P Q (Some a) None h s = s
 same_method P Q (Some a) (Some f) h s = h a f refl s
 
-module _ {L : Language} (Related : CommittedState L → Contents → List OpenCall → Type 0) (limits : ExecutionLimits) (own : List ℕ) (m : Module) (formed : ModuleIsFormed m) where
+module _ {L : Language} (Related : (charged : ℕ) → CommittedState L → Contents → List OpenCall → Type 0) (limits : ExecutionLimits) (own : List ℕ) (m : Module) (formed : ModuleIsFormed m) where
   -- The canister runs the emitted module, and its contents are related.
-  abbrev pub CodeAnd : CommittedState L → Canister → List OpenCall → Type 0
-  CodeAnd state c waiting = (c.code ≡ to_wasm m) × Related state (contents_of c) waiting
+  abbrev pub CodeAnd : (charged : ℕ) → CommittedState L → Canister → List OpenCall → Type 0
+  CodeAnd charged state c waiting = (c.code ≡ to_wasm m) × Related charged state (contents_of c) waiting
 
   -- A canister that runs it is that of its contents.
   is_canister : (c : Canister) → c.code ≡ to_wasm m → c ≡ canister limits m formed (contents_of c)
@@ -146,10 +146,10 @@ module _ {L : Language} (Related : CommittedState L → Contents → List OpenCa
 
   -- What a start leaves.
   abbrev LowLeft : ℕ → L.store → Store World → Type 0
-  LowLeft weight store left = (made : ℕ) → Related (fresh_state store made) (contents_left left) []
+  LowLeft weight store left = (made : ℕ) → Related weight (fresh_state store made) (contents_left left) []
 
   abbrev Left : ℕ → L.store → Store World → Type 0
-  Left weight store left = (made : ℕ) → CodeAnd (fresh_state store made) (left_by (to_wasm m) left) []
+  Left weight store left = (made : ℕ) → CodeAnd weight (fresh_state store made) (left_by (to_wasm m) left) []
 
   pub carried : (Stable : L.kept → List ℕ → Type 0) (Given : Event → Type 0) (pays : Measure) (p : Program L) → LowSimulates Related limits own m Stable Given pays p → Simulates CodeAnd Stable Given pays limits own p (to_wasm m)
   carried Stable Given pays p s = record {
@@ -176,7 +176,7 @@ module _ {L : Language} (Related : CommittedState L → Contents → List OpenCa
   }
 
 -- From single executions of a low module to whole lives of the module that it becomes.
-pub low_refines : {L : Language} (Related : ExecutionLimits → List ℕ → CommittedState L → Contents → List OpenCall → Type 0) (Stable : L.kept → List ℕ → Type 0) (Given : Event → Type 0) (pays : ExecutionLimits → Measure) (p : Program L) (m : Module) → ModuleIsFormed m
+pub low_refines : {L : Language} (Related : ExecutionLimits → List ℕ → (charged : ℕ) → CommittedState L → Contents → List OpenCall → Type 0) (Stable : L.kept → List ℕ → Type 0) (Given : Event → Type 0) (pays : ExecutionLimits → Measure) (p : Program L) (m : Module) → ModuleIsFormed m
     → ((limits : ExecutionLimits) → IsWithin limits → (own : List ℕ) → IsPrincipal own → LowSimulates (Related limits own) limits own m Stable Given (pays limits) p) → Refines Stable Given pays p (to_wasm m)
 low_refines Related Stable Given pays p m formed s =
     refines (λ limits own. CodeAnd (Related limits own) limits own m formed) Stable Given pays p (to_wasm m) (λ limits within own self. carried (Related limits own) limits own m formed Stable Given (pays limits) p (s limits within own self))

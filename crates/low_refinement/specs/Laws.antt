@@ -22,7 +22,7 @@ use Rattle.low_refinement.specs.LowSimulates.{LowSimulates}
 -- here what a test says.
 abbrev pub LowSimulationsRefine : (L : Language) → (pays : ExecutionLimits → Measure) → Type 0
 LowSimulationsRefine L pays =
-    (stable : L.kept → List ℕ → Bool) (given : Event → Bool) (related : ExecutionLimits → List ℕ → CommittedState L → Contents → List OpenCall → Bool) (p : Program L) (m : Module) → ModuleIsFormed m
+    (stable : L.kept → List ℕ → Bool) (given : Event → Bool) (related : ExecutionLimits → List ℕ → (charged : ℕ) → CommittedState L → Contents → List OpenCall → Bool) (p : Program L) (m : Module) → ModuleIsFormed m
     → ((limits : ExecutionLimits) → IsWithin limits → (own : List ℕ) → IsPrincipal own
-    → LowSimulates (λ state c waiting. related limits own state c waiting ≡ true) limits own m (λ kept memory. stable kept memory ≡ true) (SoundAnd given) (pays limits) p)
+    → LowSimulates (λ charged state c waiting. related limits own charged state c waiting ≡ true) limits own m (λ kept memory. stable kept memory ≡ true) (SoundAnd given) (pays limits) p)
     → Refines (λ kept memory. stable kept memory ≡ true) (SoundAnd given) pays p (emitted (flat_module m))

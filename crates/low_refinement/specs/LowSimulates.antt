@@ -31,16 +31,16 @@ use Rattle.low_execution.specs.Execution.{low_execution}
 use Rattle.low_execution.specs.Entries.{low_exported}
 use Rattle.low_refinement.specs.LowEnds.{Contents, contents_left, low_start_end, low_world, low_callback_end, low_save_end}
 
-module _ {L : Language} (Related : CommittedState L → Contents → List OpenCall → Type 0) (limits : ExecutionLimits) (own : List ℕ) (m : Module) where
+module _ {L : Language} (Related : (charged : ℕ) → CommittedState L → Contents → List OpenCall → Type 0) (limits : ExecutionLimits) (own : List ℕ) (m : Module) where
   pub record LowStatesRelate (a : Actor L) (c : Contents) (waiting : List OpenCall) : Type 0 where
     pub calls : map owner_of waiting ≡ open_owners a.table.first a.table.calls
-    pub related : Related (committed_state a) c waiting
+    pub related : Related a.charged (committed_state a) c waiting
 
   -- What is taken over: the calls and the answer are the same, and the states are related again.
   pub record LowCommitsAlike (a : Actor L) (owner : ℕ) (waiting : List OpenCall) (weight : ℕ) (effects : Effects L) (store : Store World) : Type 0 where
     pub calls : SameCalls effects.calls store.world.performed
     pub answer : SameAnswer effects.ending store.world.answer
-    pub related : Related (committed_state (committed owner weight effects a)) (contents_left store) (waiting ++ numbered owner (next_number a.table) store.world.performed)
+    pub related : Related (committed owner weight effects a).charged (committed_state (committed owner weight effects a)) (contents_left store) (waiting ++ numbered owner (next_number a.table) store.world.performed)
 
   -- How the callback of an answer ends.
   abbrev pub low_answer_end : Actor L → Contents → List OpenCall → (number : ℕ) → Call L.results L.value → OpenCall → Received → (caller : List ℕ) → End
@@ -56,15 +56,15 @@ module _ {L : Language} (Related : CommittedState L → Contents → List OpenCa
     pub ends : low_callback_end limits m c.instance kind.Cleanup callback
         (low_world limits own c.stable caller [] (is_answered (activation_at a.activations call.owner)) (length (others_open number waiting))) ≡ Finishes store
     pub quiet : store.world.prints ≡ []
-    pub related : Related (committed_state (broken number call.owner a)) (contents_left store) (others_open number waiting)
+    pub related : Related (broken number call.owner a).charged (committed_state (broken number call.owner a)) (contents_left store) (others_open number waiting)
 
   -- Each execution of the module comes out as one of the program.
   pub record LowSimulates (Stable : L.kept → List ℕ → Type 0) (Given : Event → Type 0) (pays : Measure) (p : Program L) : Type 0 where
     pub installs : (r : Result L.store) × HasResult pays p.first_memory 0 (p.start own None) r
-        × EndsAlike (λ weight store left. (made : ℕ) → Related (fresh_state store made) (contents_left left) []) r (low_start_end limits own m kind.Init (codes "canister_init") [])
+        × EndsAlike (λ weight store left. (made : ℕ) → Related weight (fresh_state store made) (contents_left left) []) r (low_start_end limits own m kind.Init (codes "canister_init") [])
     pub upgrades : (number : ℕ) → Given (event.Upgrade number) → (kept : Option L.kept) (stable : List ℕ) → Keeps Stable kept stable
         → (r : Result L.store) × HasResult pays p.first_memory 0 (p.start own kept) r
-        × EndsAlike (λ weight store left. (made : ℕ) → Related (fresh_state store made) (contents_left left) []) r (low_start_end limits own m kind.PostUpgrade (codes "canister_post_upgrade") stable)
+        × EndsAlike (λ weight store left. (made : ℕ) → Related weight (fresh_state store made) (contents_left left) []) r (low_start_end limits own m kind.PostUpgrade (codes "canister_post_upgrade") stable)
     pub updates : (a : Actor L) (c : Contents) (waiting : List OpenCall) → LowStatesRelate a c waiting → (name : List ℕ)
         → SameMethod (λ method function. (caller argument : List ℕ) → Given (event.Call false name caller argument)
         → (r : Result (Effects L)) × HasResult pays p.first_memory a.charged (entered p own a method caller argument) r

@@ -49,8 +49,8 @@ abbrev installed_on : List Method → List (List ℕ) → List ℕ → Canister
 installed_on methods replies stable = record { code = query_tree methods replies; instance = first_instance (concat replies); stable = stable }
 
 -- The canister stays as it was installed, and no call is open.
-abbrev Stays : List Method → List (List ℕ) → CommittedState queries → Canister → List OpenCall → Type 0
-Stays methods replies state c waiting = (stable : List ℕ) × (c ≡ installed_on methods replies stable) × (waiting ≡ [])
+abbrev Stays : List Method → List (List ℕ) → (charged : ℕ) → CommittedState queries → Canister → List OpenCall → Type 0
+Stays methods replies charged state c waiting = (stable : List ℕ) × (c ≡ installed_on methods replies stable) × (waiting ≡ [])
 
 module _ (methods : List Method) (replies : List (List ℕ)) (all : AreReplies methods replies) (limits : ExecutionLimits) (own : List ℕ) (within : IsWithin limits) (short : length (concat replies) ≤ 65536) where
   abbrev tree : Module
@@ -62,8 +62,8 @@ module _ (methods : List Method) (replies : List (List ℕ)) (all : AreReplies m
   abbrev pays : Measure
   pays e = no_exhaustion limits e
 
-  abbrev Related : CommittedState queries → Canister → List OpenCall → Type 0
-  Related state c waiting = Stays methods replies state c waiting
+  abbrev Related : (charged : ℕ) → CommittedState queries → Canister → List OpenCall → Type 0
+  Related charged state c waiting = Stays methods replies charged state c waiting
 
   pub record Stands (before : List (List ℕ)) (reply : List ℕ) : Type 0 where
     pub after : List (List ℕ)
@@ -192,7 +192,7 @@ module _ (methods : List Method) (replies : List (List ℕ)) (all : AreReplies m
       rw none (0, 0, refl)
 
   abbrev Starts : ℕ → Nothing → Store World → Type 0
-  Starts weight store left = (made : ℕ) → Related (fresh_state store made) (left_by tree left) []
+  Starts weight store left = (made : ℕ) → Related weight (fresh_state store made) (left_by tree left) []
 
   abbrev Saves : ℕ → Nothing → Store World → Type 0
   Saves weight kept store = ⊤

@@ -42,7 +42,7 @@ IsOurs o = o.call ≡ made_call
 abbrev IsPlain : HeldCall calling → Type 0
 IsPlain h = h.call.resumes ≡ None
 
-pub record Stays (state : CommittedState calling) (c : Canister) (waiting : List OpenCall) : Type 0 where
+pub record Stays (charged : ℕ) (state : CommittedState calling) (c : Canister) (waiting : List OpenCall) : Type 0 where
   pub stays : c ≡ there
   pub ours : AllByRecursion IsOurs waiting
   pub plain : AllByRecursion IsPlain state.calls
@@ -242,7 +242,7 @@ module _ (limits : ExecutionLimits) (own : List ℕ) (within : IsWithin limits) 
     installs = (
       Completed [] 0 tt,
       (0, 0, refl),
-      subst (EndsAlike (λ weight store left. (made : ℕ) → Stays (fresh_state store made) (left_by calling_module left) []) (Completed [] 0 tt)) (sym installs) (refl, λ made. record { stays = refl; ours = tt; plain = tt }),
+      subst (EndsAlike (λ weight store left. (made : ℕ) → Stays weight (fresh_state store made) (left_by calling_module left) []) (Completed [] 0 tt)) (sym installs) (refl, λ made. record { stays = refl; ours = tt; plain = tt }),
     );
     upgrades = λ number given. absurd given;
     updates = λ a c waiting at name. update_at a waiting name c at.related.stays at;

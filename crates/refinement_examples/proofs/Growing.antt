@@ -33,7 +33,7 @@ use Rattle.refinement_examples.specs.GrowingModule.{growing_module, growing, gro
 use Rattle.refinement_examples.proofs.GrowingExecutions.{first, on, loads, page_long, grown_ends, refused_ends}
 
 -- The canister stays but for its stable memory, which has so many pages; no call is open.
-pub record Stays (state : CommittedState growing) (c : Canister) (waiting : List OpenCall) : Type 0 where
+pub record Stays (charged : ℕ) (state : CommittedState growing) (c : Canister) (waiting : List OpenCall) : Type 0 where
   pub stable : List ℕ
   pub stays : c ≡ on stable
   pub pages : HasPages state.store stable
@@ -102,7 +102,7 @@ module _ (limits : ExecutionLimits) (own : List ℕ) (within : IsWithin limits) 
   starts_on stable = rw (loads limits) refl
 
   abbrev Starts : ℕ → ℕ → Store World → Type 0
-  Starts weight store left = (made : ℕ) → Stays (fresh_state store made) (left_by growing_module left) []
+  Starts weight store left = (made : ℕ) → Stays weight (fresh_state store made) (left_by growing_module left) []
 
   abbrev Saves : ℕ → ℕ → Store World → Type 0
   Saves weight kept store = HasPages kept store.world.stable.bytes

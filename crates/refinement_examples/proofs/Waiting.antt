@@ -56,7 +56,7 @@ pub record Waits (h : HeldCall waiting_language) : Type 0 where
   pub plain : h.call.resumes ≡ None
   pub waits : is_open_state h.call.state ≡ true → h.waiting ≡ Some tt
 
-pub record Stays (state : CommittedState waiting_language) (c : Canister) (waiting : List OpenCall) : Type 0 where
+pub record Stays (charged : ℕ) (state : CommittedState waiting_language) (c : Canister) (waiting : List OpenCall) : Type 0 where
   pub stays : c ≡ there
   pub ours : AllByRecursion IsOurs waiting
   pub wait : AllByRecursion Waits state.calls
@@ -310,7 +310,7 @@ module _ (limits : ExecutionLimits) (own : List ℕ) (within : IsWithin limits) 
     installs = (
       Completed [] 0 tt,
       (0, 0, refl),
-      subst (EndsAlike (λ weight store left. (made : ℕ) → Stays (fresh_state store made) (left_by waiting_module left) []) (Completed [] 0 tt)) (sym installs) (refl, λ made. record { stays = refl; ours = tt; wait = tt }),
+      subst (EndsAlike (λ weight store left. (made : ℕ) → Stays weight (fresh_state store made) (left_by waiting_module left) []) (Completed [] 0 tt)) (sym installs) (refl, λ made. record { stays = refl; ours = tt; wait = tt }),
     );
     upgrades = λ number given. absurd given;
     updates = λ a c waiting at name. update_at a waiting name c at.related.stays at;

@@ -4,10 +4,10 @@ use Rattle.actor_refinement.proofs.Lifting.{refines}
 use Rattle.actor_refinement.proofs.laws.simulations_refine.Goals as goal
 
 pub returns-clause-refines : goal.returns-clause-refines
-returns-clause-refines g c = λ stable given related p m simulates. refines (λ limits own state c waiting. related limits own state c waiting ≡ true) (λ kept memory. stable kept memory ≡ true) (SoundAnd given) any_exhaustion p m simulates
+returns-clause-refines g c = λ stable given related p m simulates. refines (λ limits own charged state c waiting. related limits own charged state c waiting ≡ true) (λ kept memory. stable kept memory ≡ true) (SoundAnd given) any_exhaustion p m simulates
 
 pub returns-clause-measured : goal.returns-clause-measured
-returns-clause-measured g c = λ stable given related p m simulates. refines (λ limits own state c waiting. related limits own state c waiting ≡ true) (λ kept memory. stable kept memory ≡ true) (SoundAnd given) spent_exhaustion p m simulates
+returns-clause-measured g c = λ stable given related p m simulates. refines (λ limits own charged state c waiting. related limits own charged state c waiting ≡ true) (λ kept memory. stable kept memory ≡ true) (SoundAnd given) spent_exhaustion p m simulates
 
 pub returns-clause-unexhausted : goal.returns-clause-unexhausted
-returns-clause-unexhausted g c = λ stable given related p m simulates. refines (λ limits own state c waiting. related limits own state c waiting ≡ true) (λ kept memory. stable kept memory ≡ true) (SoundAnd given) no_exhaustion p m simulates
+returns-clause-unexhausted g c = λ stable given related p m simulates. refines (λ limits own charged state c waiting. related limits own charged state c waiting ≡ true) (λ kept memory. stable kept memory ≡ true) (SoundAnd given) no_exhaustion p m simulates
