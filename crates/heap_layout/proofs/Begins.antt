@@ -34,7 +34,7 @@ block_paid (Error code message) inside is = absurd is
 block_paid (Cell n) inside is = absurd is
 block_paid (Future n) inside is = absurd is
 
-text_paid : (n : ℕ) → 8 * (1 + (n + 7) / 8) ≤ 64 * (1 + n)
+text_paid : (n : ℕ) → 8 * (1 + (n + 7) / 8) ≤ 40 * (1 + n)
 text_paid n = omega arith
 
 pub blocks_paid : BlocksArePaid

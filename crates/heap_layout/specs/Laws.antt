@@ -93,7 +93,7 @@ HeapsBegin =
     (plan : Plan) (own : ℕ → Owner) (memory : List ℕ) (count top : ℕ) → 0 < top → IsHeap memory count (8 * top) → HoldsBytes memory → plan.base ≤ top → take (8 * plan.base) memory ≡ plan.texts → ((i : ℕ) → i < plan.base → own i ≡ Fixed) → ((i : ℕ) → top ≤ i → own i ≡ Free)
     → Holds plan (first_ghost own) (record { store = []; groups = []; requests = [] }) memory count top
 
--- The bytes of a block are within what its weight pays for, 64 for each: a value with so many parts, made by an operation that counts
+-- The bytes of a block are within what its weight pays for, 40 for each: a value with so many parts, made by an operation that counts
 -- its parts and 2, or of a text that counts its bytes and 1; a cell, which counts 1; and a group, which counts its nodes, where its
 -- functions and what they see are at most 4 for each of these and one more.
 abbrev pub BlocksArePaid : Type 0

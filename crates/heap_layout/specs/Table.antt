@@ -1,7 +1,7 @@
 -- The table of routines: one line for each primitive, by what the table of operations says that it does and costs. A line speaks of
 -- words that stand for the operands, in a heap that holds the world, and has the routine's result, its trap, and its steps and bytes in
 -- units of the weight.
-use Rattle.std.specs.Prelude.{⊤, ◌≡◌, ◌≤◌, ℕ, ◌+◌, ◌*◌, List, [], ◌∷◌, length, take, drop, max, Some, None}
+use Rattle.std.specs.Prelude.{⊤, ◌≡◌, ◌⊎◌, ◌<◌, ◌≤◌, ℕ, ◌+◌, ◌*◌, List, [], ◌∷◌, length, take, drop, max, Some, None, true}
 use Rattle.mo_types.specs.declared.node.Node.{Node}
 use Rattle.mo_types.specs.declared.node.TypeId.{TypeId}
 use Rattle.mo_values.specs.Costs.{Cost}
@@ -11,10 +11,11 @@ use Rattle.core_ir.specs.Primitives.{Done, Gives, Prints, Fails, Stuck, perform}
 use Rattle.core_ir.specs.Primitives as cells
 use Rattle.core_ir.specs.Values.{Value}
 use Rattle.core_ir.specs.Worlds.{World, with_store}
+use Rattle.wasm_tree.specs.declared.trap.Trap.TheVariants as trap
 use Rattle.wasm_tree.specs.Exec.{Store, Host}
 use Rattle.low_ir.specs.Meaning.{Calls}
 use Rattle.low_ir.specs.Numbering.{host_trap}
-use Rattle.low_rules.specs.Rule.{CallEnd, Comes, ComesTo}
+use Rattle.low_rules.specs.Rule.{CallEnd, Comes, Dies, ComesTo}
 use Rattle.low_rules.specs.Lines.{host_end}
 use Rattle.memory_routines.specs.Heaps.{heap, heap_end, pages_for}
 use Rattle.heap_layout.specs.Ghosts.{Ghost}
@@ -29,7 +30,7 @@ abbrev pub steps_for : ℕ → ℕ
 steps_for weight = 4096 * weight
 
 abbrev pub bytes_for : ℕ → ℕ
-bytes_for weight = 64 * weight
+bytes_for weight = 40 * weight
 
 abbrev pub words_for_levels : ℕ → ℕ
 words_for_levels levels = 64 * levels
@@ -75,14 +76,13 @@ module _ {W : Type 0} (head : TypeId → Node TypeId) (plan : Plan) (host : Host
     pub few : steps ≤ steps_for weight
     pub is : end ≡ trap_end store steps (host host_trap (address ∷ length text ∷ []) store.memory store.world)
 
-  -- what is left of the host's print of the text, and the word of ()
+  -- what the host's print of the text leaves, and the word of ()
   pub record Printed (store : Store W) (weight : ℕ) (text : Bytes) (end : CallEnd W) : Type 0 where
     pub address : ℕ
     pub steps : ℕ
     pub stands : StandsAt store.memory address text
     pub few : steps ≤ steps_for weight
-    pub after : Store W
-    pub told : host_end store (host host_print (address ∷ length text ∷ []) store.memory store.world) ≡ Comes 0 after None → end ≡ Comes steps after (Some 0)
+    pub told : (after : Store W) → host_end store (host host_print (address ∷ length text ∷ []) store.memory store.world) ≡ Comes 0 after None → end ≡ Comes steps after (Some 0)
 
   abbrev pub EndsAs : Ghost → World → Store W → List ℕ → ℕ → List ℕ → Done → CallEnd W → Type 0
   EndsAs g world store memory top others (Gives cost v after) end = Gave g world store memory top others cost.weight v after end
@@ -96,10 +96,22 @@ module _ {W : Type 0} (head : TypeId → Node TypeId) (plan : Plan) (host : Host
   cost_of (Fails cost text) = cost
   cost_of Stuck = record { weight = 0; levels = 0 }
 
-  -- The line of a primitive, kept by the calls of a function, within this limit of pages: where the primitive is not stuck, and the heap
-  -- has room for what the weight pays for, a call on words of operands ends as the primitive does.
-  abbrev pub KeepsLine : (pages : ℕ) → Calls W → (function : ℕ) → Primitive → Type 0
-  KeepsLine pages calls f p =
+  -- the end for want of memory, where the heap has no room for what the weight pays for
+  pub record Wanted (pages : ℕ) (store : Store W) (count top weight : ℕ) (end : CallEnd W) : Type 0 where
+    pub after : Store W
+    pub steps : ℕ
+    pub is : end ≡ Dies trap.Unreachable steps after
+    pub few : steps ≤ steps_for weight
+    pub refused : after.refused ≡ true
+    pub world : after.world ≡ store.world
+    pub lack : (heap_end < 8 * top + bytes_for weight) ⊎ (max pages count < pages_for (8 * top + bytes_for weight))
+
+  abbrev pub LineEnds : (pages : ℕ) → Ghost → World → Store W → List ℕ → (count top : ℕ) → List ℕ → Done → CallEnd W → Type 0
+  LineEnds pages g world store memory count top others d end = EndsAs g world store memory top others d end ⊎ Wanted pages store count top (cost_of d).weight end
+
+  -- The line of a primitive, kept by the calls of a function for values of at most so many levels, within this limit of pages: where the
+  -- primitive is not stuck, a call on words of operands ends as the primitive does, or for want of memory.
+  abbrev pub KeepsLine : (most pages : ℕ) → Calls W → (function : ℕ) → Primitive → Type 0
+  KeepsLine most pages calls f p =
       (g : Ghost) (world : World) (store : Store W) (memory : List ℕ) (count top : ℕ) (others : List ℕ) → Here g world store memory count top others → (ws : List ℕ) (vs : List Value) → Reps g memory ws vs
-      → (perform head world.store p vs ≡ Stuck → ⊥) → 8 * top + bytes_for (cost_of (perform head world.store p vs)).weight ≤ heap_end → pages_for (8 * top + bytes_for (cost_of (perform head world.store p vs)).weight) ≤ max pages count
-      → ComesTo calls f store ws (EndsAs g world store memory top others (perform head world.store p vs))
+      → (perform head world.store p vs ≡ Stuck → ⊥) → (cost_of (perform head world.store p vs)).levels ≤ most → ComesTo calls f store ws (LineEnds pages g world store memory count top others (perform head world.store p vs))

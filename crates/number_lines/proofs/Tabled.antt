@@ -1,5 +1,5 @@
 -- The routines of numbers keep their lines of the table.
-use Rattle.std.proofs.Common.{◌≡◌, ℕ, zero, suc, ◌+◌, ◌*◌, ◌<◌, ◌≤◌, ◌^◌, max, List, [], ◌∷◌, Bool, true, false, ◌&&◌, cond, Some, Result, Ok, Err, ℤ, pos, negsuc, refl, sym, ap, ◌∙◌, subst, arith}
+use Rattle.std.proofs.Common.{◌≡◌, inl, ℕ, zero, suc, ◌+◌, ◌*◌, ◌<◌, ◌≤◌, ◌^◌, max, List, [], ◌∷◌, Bool, true, false, ◌&&◌, cond, Some, Result, Ok, Err, ℤ, pos, negsuc, refl, sym, ap, ◌∙◌, subst, arith}
 use Rattle.std.specs.Prelude.{int_le, int_lt, int_div, int_rem}
 use Rattle.std.specs.Int.{int_pow}
 use Rattle.std.specs.Ordering.{int_eq}
@@ -43,7 +43,7 @@ use Rattle.memory_routines.specs.Heaps.{heap_end, pages_for}
 use Rattle.heap_layout.specs.Ghosts.{Ghost}
 use Rattle.heap_layout.specs.Means.{Means, Rep, Reps}
 use Rattle.heap_layout.specs.Heaps.{Plan}
-use Rattle.heap_layout.specs.Table.{steps_for, bytes_for, StandsAt, Here, Gave, Trapped, EndsAs, cost_of}
+use Rattle.heap_layout.specs.Table.{steps_for, StandsAt, Here, Gave, Trapped, EndsAs, LineEnds, cost_of}
 use Rattle.heap_layout.proofs.Meanings.{same_later}
 use Rattle.heap_layout.proofs.Begins.{texts_stand}
 use Rattle.number_routines.specs.declared.places.TrapPlaces.{TrapPlaces}
@@ -264,91 +264,91 @@ arithmetic_call World pages m host at operator.Div k f signature there deep room
 arithmetic_call World pages m host at operator.Rem k f signature there deep room less fits store a b r s = arithmetic_kept World pages m host at operator.Rem k tt f signature there deep room less (omega (arith, fits)) store a b r s
 arithmetic_call World pages m host at operator.Pow k f signature there deep room less fits store a b r s = power_kept World pages m host at k f signature there deep room less fits store a b r s
 
-module _ {World : Type 0} (pages : ℕ) (calls : Calls World) (f : ℕ) (host : Host World) (head : TypeId → Node TypeId) (plan : Plan) (g : Ghost) (world : CoreWorld) (store : Store World) (memory : List ℕ) (count top : ℕ) (others : List ℕ) (ws : List ℕ) (weight : ℕ) where
+module _ {World : Type 0} (pages : ℕ) (calls : Calls World) (f : ℕ) (host : Host World) (head : TypeId → Node TypeId) (plan : Plan) (g : Ghost) (world : CoreWorld) (store : Store World) (memory : List ℕ) (count top : ℕ) (others : List ℕ) (ws : List ℕ) (weight most : ℕ) where
   -- what is owed of an answer with this weight
   abbrev Owed : Answer Handle → Type 0
   Owed x =
-      (answered head world.store (weighing weight) x ≡ Stuck → ⊥) → 8 * top + bytes_for (cost_of head plan host (answered head world.store (weighing weight) x)).weight ≤ heap_end → pages_for (8 * top + bytes_for (cost_of head plan host (answered head world.store (weighing weight) x)).weight) ≤ max pages count
-      → ComesTo calls f store ws (EndsAs head plan host g world store memory top others (answered head world.store (weighing weight) x))
+      (answered head world.store (weighing weight) x ≡ Stuck → ⊥) → (cost_of head plan host (answered head world.store (weighing weight) x)).levels ≤ most
+      → ComesTo calls f store ws (LineEnds head plan host pages g world store memory count top others (answered head world.store (weighing weight) x))
 
   none_owed : Owed views.Stuck
   none_owed ns = absurd (ns refl)
 
 pub arithmetic_tabled : (World : Type 0) → ArithmeticIsOfTheTable World
-arithmetic_tabled World pages m host head plan at texts o k f signature there deep room less fits g world store memory count top others here ws [] reps = λ ns. absurd (ns refl)
-arithmetic_tabled World pages m host head plan at texts o k f signature there deep room less fits g world store memory count top others here ws (v ∷ []) reps = λ ns. absurd (ns refl)
-arithmetic_tabled World pages m host head plan at texts o k f signature there deep room less fits g world store memory count top others here ws (v ∷ w ∷ u ∷ vs) reps = λ ns. absurd (ns refl)
-arithmetic_tabled World pages m host head plan at texts o k f signature there deep room less fits g world store memory count top others here ws (v ∷ w ∷ []) reps =
+arithmetic_tabled World pages m host head plan at texts o k f signature there deep room less fits most g world store memory count top others here ws [] reps = λ ns. absurd (ns refl)
+arithmetic_tabled World pages m host head plan at texts o k f signature there deep room less fits most g world store memory count top others here ws (v ∷ []) reps = λ ns. absurd (ns refl)
+arithmetic_tabled World pages m host head plan at texts o k f signature there deep room less fits most g world store memory count top others here ws (v ∷ w ∷ u ∷ vs) reps = λ ns. absurd (ns refl)
+arithmetic_tabled World pages m host head plan at texts o k f signature there deep room less fits most g world store memory count top others here ws (v ∷ w ∷ []) reps =
     let calls : Calls World = enter deep pages m host room in
-    let B : Answer Handle → Type 0 = Owed pages calls f host head plan g world store memory count top others ws (arithmetic_weight o) in
-    let none : B views.Stuck = none_owed pages calls f host head plan g world store memory count top others ws (arithmetic_weight o) in
+    let B : Answer Handle → Type 0 = Owed pages calls f host head plan g world store memory count top others ws (arithmetic_weight o) most in
+    let none : B views.Stuck = none_owed pages calls f host head plan g world store memory count top others ws (arithmetic_weight o) most in
     by_number B k none v (λ a. given (number_of k w) (λ b. operations.number (Arith o k a b)))
     (λ a e r. by_number B k none w (λ b. operations.number (Arith o k a b))
-    (λ b h s ns enough pages_enough.
-    subst (λ ws. ComesTo calls f store ws (EndsAs head plan host g world store memory top others (answered head world.store (weighing (arithmetic_weight o)) (operations.number (Arith o k a b))))) (sym (two_are g memory ws v w a b reps e h))
+    (λ b h s ns few_levels.
+    subst (λ ws. ComesTo calls f store ws (LineEnds head plan host pages g world store memory count top others (answered head world.store (weighing (arithmetic_weight o)) (operations.number (Arith o k a b))))) (sym (two_are g memory ws v w a b reps e h))
     (weaker calls f store (bits64 a ∷ bits64 b ∷ []) (Answers host at store (arithmetic_most o) (Arith o k a b)) _
-    (answers_end head plan host g world store memory count top others here at texts (Arith o k a b) (arithmetic_most o) (arithmetic_weight o) (most_paid o) (λ n q. range_small k n (arith_in o k a b n q)))
+    (λ end met. inl (answers_end head plan host g world store memory count top others here at texts (Arith o k a b) (arithmetic_most o) (arithmetic_weight o) (most_paid o) (λ n q. range_small k n (arith_in o k a b n q)) end met))
     (arithmetic_call World pages m host at o k f signature there deep room less fits store a b r s))))
 
 pub negation_tabled : (World : Type 0) → NegationIsOfTheTable World
-negation_tabled World pages m host head plan at texts k f signature there deep room less fits g world store memory count top others here ws [] reps = λ ns. absurd (ns refl)
-negation_tabled World pages m host head plan at texts k f signature there deep room less fits g world store memory count top others here ws (v ∷ w ∷ vs) reps = λ ns. absurd (ns refl)
-negation_tabled World pages m host head plan at texts k f signature there deep room less fits g world store memory count top others here ws (v ∷ []) reps =
+negation_tabled World pages m host head plan at texts k f signature there deep room less fits most g world store memory count top others here ws [] reps = λ ns. absurd (ns refl)
+negation_tabled World pages m host head plan at texts k f signature there deep room less fits most g world store memory count top others here ws (v ∷ w ∷ vs) reps = λ ns. absurd (ns refl)
+negation_tabled World pages m host head plan at texts k f signature there deep room less fits most g world store memory count top others here ws (v ∷ []) reps =
     let calls : Calls World = enter deep pages m host room in
-    let B : Answer Handle → Type 0 = Owed pages calls f host head plan g world store memory count top others ws 1 in
-    let none : B views.Stuck = none_owed pages calls f host head plan g world store memory count top others ws 1 in
+    let B : Answer Handle → Type 0 = Owed pages calls f host head plan g world store memory count top others ws 1 most in
+    let none : B views.Stuck = none_owed pages calls f host head plan g world store memory count top others ws 1 most in
     by_number B k none v (λ a. operations.number (Negation k a))
-    (λ a e r ns enough pages_enough.
-    subst (λ ws. ComesTo calls f store ws (EndsAs head plan host g world store memory top others (answered head world.store (weighing 1) (operations.number (Negation k a))))) (sym (one_is g memory ws v a reps e))
+    (λ a e r ns few_levels.
+    subst (λ ws. ComesTo calls f store ws (LineEnds head plan host pages g world store memory count top others (answered head world.store (weighing 1) (operations.number (Negation k a))))) (sym (one_is g memory ws v a reps e))
     (weaker calls f store (bits64 a ∷ []) (Answers host at store 60 (Negation k a)) _
-    (answers_end head plan host g world store memory count top others here at texts (Negation k a) 60 1 (omega arith) (λ n q. range_small k n (within_in k Overflow _ n q)))
+    (λ end met. inl (answers_end head plan host g world store memory count top others here at texts (Negation k a) 60 1 (omega arith) (λ n q. range_small k n (within_in k Overflow _ n q)) end met))
     (negation_kept World pages m host at k f signature there deep room less (omega (arith, fits)) store a r)))
 
 pub wrapping_tabled : (World : Type 0) → WrappingIsOfTheTable World
-wrapping_tabled World pages m host head plan o k wide f signature there deep room less fits g world store memory count top others here ws [] reps = λ ns. absurd (ns refl)
-wrapping_tabled World pages m host head plan o k wide f signature there deep room less fits g world store memory count top others here ws (v ∷ []) reps = λ ns. absurd (ns refl)
-wrapping_tabled World pages m host head plan o k wide f signature there deep room less fits g world store memory count top others here ws (v ∷ w ∷ u ∷ vs) reps = λ ns. absurd (ns refl)
-wrapping_tabled World pages m host head plan o k wide f signature there deep room less fits g world store memory count top others here ws (v ∷ w ∷ []) reps =
+wrapping_tabled World pages m host head plan o k wide f signature there deep room less fits most g world store memory count top others here ws [] reps = λ ns. absurd (ns refl)
+wrapping_tabled World pages m host head plan o k wide f signature there deep room less fits most g world store memory count top others here ws (v ∷ []) reps = λ ns. absurd (ns refl)
+wrapping_tabled World pages m host head plan o k wide f signature there deep room less fits most g world store memory count top others here ws (v ∷ w ∷ u ∷ vs) reps = λ ns. absurd (ns refl)
+wrapping_tabled World pages m host head plan o k wide f signature there deep room less fits most g world store memory count top others here ws (v ∷ w ∷ []) reps =
     let calls : Calls World = enter deep pages m host room in
-    let B : Answer Handle → Type 0 = Owed pages calls f host head plan g world store memory count top others ws 1 in
-    let none : B views.Stuck = none_owed pages calls f host head plan g world store memory count top others ws 1 in
+    let B : Answer Handle → Type 0 = Owed pages calls f host head plan g world store memory count top others ws 1 most in
+    let none : B views.Stuck = none_owed pages calls f host head plan g world store memory count top others ws 1 most in
     subst (λ t. B (given (only_if t k) (λ k. given (number_of k v) (λ a. given (number_of k w) (λ b. views.Gives (leaf (part.Number (wrapped k (exact o a b))))))))) (sym wide)
     (by_number B k none v (λ a. given (number_of k w) (λ b. views.Gives (leaf (part.Number (wrapped k (exact o a b))))))
     (λ a e r. by_number B k none w (λ b. views.Gives (leaf (part.Number (wrapped k (exact o a b)))))
-    (λ b h s ns enough pages_enough.
-    subst (λ ws. ComesTo calls f store ws (EndsAs head plan host g world store memory top others (answered head world.store (weighing 1) (views.Gives (leaf (part.Number (wrapped k (exact o a b)))))))) (sym (two_are g memory ws v w a b reps e h))
+    (λ b h s ns few_levels.
+    subst (λ ws. ComesTo calls f store ws (LineEnds head plan host pages g world store memory count top others (answered head world.store (weighing 1) (views.Gives (leaf (part.Number (wrapped k (exact o a b)))))))) (sym (two_are g memory ws v w a b reps e h))
     (weaker calls f store (bits64 a ∷ bits64 b ∷ []) (Results store 60 (wrapped k (exact o a b))) _
-    (results_end head plan host g world store memory count top others here (wrapped k (exact o a b)) 60 1 (omega arith) (range_small k (wrapped k (exact o a b)) (is_wrapped k (exact o a b)).in_range))
+    (λ end met. inl (results_end head plan host g world store memory count top others here (wrapped k (exact o a b)) 60 1 (omega arith) (range_small k (wrapped k (exact o a b)) (is_wrapped k (exact o a b)).in_range) end met))
     (wrapping_kept World pages m host o k wide f signature there deep room less (omega (arith, fits)) store a b r s)))))
 
 pub order_tabled : (World : Type 0) → OrderIsOfTheTable World
-order_tabled World pages m host head plan o k f signature there deep room less fits g world store memory count top others here ws [] reps = λ ns. absurd (ns refl)
-order_tabled World pages m host head plan o k f signature there deep room less fits g world store memory count top others here ws (v ∷ []) reps = λ ns. absurd (ns refl)
-order_tabled World pages m host head plan o k f signature there deep room less fits g world store memory count top others here ws (v ∷ w ∷ u ∷ vs) reps = λ ns. absurd (ns refl)
-order_tabled World pages m host head plan o k f signature there deep room less fits g world store memory count top others here ws (v ∷ w ∷ []) reps =
+order_tabled World pages m host head plan o k f signature there deep room less fits most g world store memory count top others here ws [] reps = λ ns. absurd (ns refl)
+order_tabled World pages m host head plan o k f signature there deep room less fits most g world store memory count top others here ws (v ∷ []) reps = λ ns. absurd (ns refl)
+order_tabled World pages m host head plan o k f signature there deep room less fits most g world store memory count top others here ws (v ∷ w ∷ u ∷ vs) reps = λ ns. absurd (ns refl)
+order_tabled World pages m host head plan o k f signature there deep room less fits most g world store memory count top others here ws (v ∷ w ∷ []) reps =
     let calls : Calls World = enter deep pages m host room in
-    let B : Answer Handle → Type 0 = Owed pages calls f host head plan g world store memory count top others ws 1 in
-    let none : B views.Stuck = none_owed pages calls f host head plan g world store memory count top others ws 1 in
+    let B : Answer Handle → Type 0 = Owed pages calls f host head plan g world store memory count top others ws 1 most in
+    let none : B views.Stuck = none_owed pages calls f host head plan g world store memory count top others ws 1 most in
     by_scalar B k none v (λ p. given (scalar_of (scalar.Number k) w) (λ q. given (before p q) (λ first. given (before q p) (λ second. operations.flag (compared o first second)))))
     (λ a e r. by_scalar B k none w (λ q. given (before (part.Number a) q) (λ first. given (before q (part.Number a)) (λ second. operations.flag (compared o first second))))
-    (λ b h s ns enough pages_enough.
-    subst (λ ws. ComesTo calls f store ws (EndsAs head plan host g world store memory top others (answered head world.store (weighing 1) (operations.flag (compared o (int_lt a b) (int_lt b a)))))) (sym (two_are g memory ws v w a b reps e h))
+    (λ b h s ns few_levels.
+    subst (λ ws. ComesTo calls f store ws (LineEnds head plan host pages g world store memory count top others (answered head world.store (weighing 1) (operations.flag (compared o (int_lt a b) (int_lt b a)))))) (sym (two_are g memory ws v w a b reps e h))
     (weaker calls f store (bits64 a ∷ bits64 b ∷ []) (Tells store 60 (compared o (int_lt a b) (int_lt b a))) _
-    (tells_end head plan host g world store memory count top others here (compared o (int_lt a b) (int_lt b a)) 60 1 (omega arith))
+    (λ end met. inl (tells_end head plan host g world store memory count top others here (compared o (int_lt a b) (int_lt b a)) 60 1 (omega arith) end met))
     (order_kept World pages m host o k f signature there deep room less (omega (arith, fits)) store a b r s))))
 
 pub sameness_tabled : (World : Type 0) → SamenessIsOfTheTable World
-sameness_tabled World pages m host head plan k f signature there deep room less fits g world store memory count top others here ws [] reps = λ ns. absurd (ns refl)
-sameness_tabled World pages m host head plan k f signature there deep room less fits g world store memory count top others here ws (v ∷ []) reps = λ ns. absurd (ns refl)
-sameness_tabled World pages m host head plan k f signature there deep room less fits g world store memory count top others here ws (v ∷ w ∷ u ∷ vs) reps = λ ns. absurd (ns refl)
-sameness_tabled World pages m host head plan k f signature there deep room less fits g world store memory count top others here ws (v ∷ w ∷ []) reps =
+sameness_tabled World pages m host head plan k f signature there deep room less fits most g world store memory count top others here ws [] reps = λ ns. absurd (ns refl)
+sameness_tabled World pages m host head plan k f signature there deep room less fits most g world store memory count top others here ws (v ∷ []) reps = λ ns. absurd (ns refl)
+sameness_tabled World pages m host head plan k f signature there deep room less fits most g world store memory count top others here ws (v ∷ w ∷ u ∷ vs) reps = λ ns. absurd (ns refl)
+sameness_tabled World pages m host head plan k f signature there deep room less fits most g world store memory count top others here ws (v ∷ w ∷ []) reps =
     let calls : Calls World = enter deep pages m host room in
-    let B : Answer Handle → Type 0 = Owed pages calls f host head plan g world store memory count top others ws 1 in
-    let none : B views.Stuck = none_owed pages calls f host head plan g world store memory count top others ws 1 in
+    let B : Answer Handle → Type 0 = Owed pages calls f host head plan g world store memory count top others ws 1 most in
+    let none : B views.Stuck = none_owed pages calls f host head plan g world store memory count top others ws 1 most in
     by_scalar B k none v (λ p. given (scalar_of (scalar.Number k) w) (λ q. operations.flag (same_part p q)))
     (λ a e r. by_scalar B k none w (λ q. operations.flag (same_part (part.Number a) q))
-    (λ b h s ns enough pages_enough.
-    subst (λ ws. ComesTo calls f store ws (EndsAs head plan host g world store memory top others (answered head world.store (weighing 1) (operations.flag (int_eq a b))))) (sym (two_are g memory ws v w a b reps e h))
+    (λ b h s ns few_levels.
+    subst (λ ws. ComesTo calls f store ws (LineEnds head plan host pages g world store memory count top others (answered head world.store (weighing 1) (operations.flag (int_eq a b))))) (sym (two_are g memory ws v w a b reps e h))
     (weaker calls f store (bits64 a ∷ bits64 b ∷ []) (Tells store 60 (int_eq a b)) _
-    (tells_end head plan host g world store memory count top others here (int_eq a b) 60 1 (omega arith))
+    (λ end met. inl (tells_end head plan host g world store memory count top others here (int_eq a b) 60 1 (omega arith) end met))
     (sameness_kept World pages m host k f signature there deep room less (omega (arith, fits)) store a b r s))))

@@ -39,27 +39,27 @@ arithmetic_routine signature at o k = of_two signature (calculate at 2 3 4 5 6 o
 abbrev pub ArithmeticIsOfTheTable : Type 0 → Type 0
 ArithmeticIsOfTheTable World =
     (pages : ℕ) (m : Module) (host : Host World) (head : TypeId → Node TypeId) (plan : Plan) (at : TrapPlaces) → HaveTexts plan at → (o : Operator) (k : Kind) (f signature : ℕ) → IsThere m f (I64 ∷ I64 ∷ []) (arithmetic_routine signature at o k)
-    → (deep room : ℕ) → 2 ≤ deep → 24 ≤ room → KeepsLine head plan host pages (enter deep pages m host room) f (primitive.Operate (op.Arithmetic o k))
+    → (deep room : ℕ) → 2 ≤ deep → 24 ≤ room → (most : ℕ) → KeepsLine head plan host most pages (enter deep pages m host room) f (primitive.Operate (op.Arithmetic o k))
 
 abbrev pub NegationIsOfTheTable : Type 0 → Type 0
 NegationIsOfTheTable World =
     (pages : ℕ) (m : Module) (host : Host World) (head : TypeId → Node TypeId) (plan : Plan) (at : TrapPlaces) → HaveTexts plan at → (k : Kind) (f signature : ℕ) → IsThere m f (I64 ∷ []) (of_one signature (negate at 1 2 3 4 5 k))
-    → (deep room : ℕ) → 2 ≤ deep → 24 ≤ room → KeepsLine head plan host pages (enter deep pages m host room) f (primitive.Operate (op.Negate k))
+    → (deep room : ℕ) → 2 ≤ deep → 24 ≤ room → (most : ℕ) → KeepsLine head plan host most pages (enter deep pages m host room) f (primitive.Operate (op.Negate k))
 
 abbrev pub WrappingIsOfTheTable : Type 0 → Type 0
 WrappingIsOfTheTable World =
     (pages : ℕ) (m : Module) (host : Host World) (head : TypeId → Node TypeId) (plan : Plan) (w : Wrapping) (k : Kind) → has_width k ≡ true → (f signature : ℕ) → IsThere m f (I64 ∷ I64 ∷ []) (of_two signature (wrap 2 w k))
-    → (deep room : ℕ) → 2 ≤ deep → 24 ≤ room → KeepsLine head plan host pages (enter deep pages m host room) f (primitive.Operate (op.Wrap w k))
+    → (deep room : ℕ) → 2 ≤ deep → 24 ≤ room → (most : ℕ) → KeepsLine head plan host most pages (enter deep pages m host room) f (primitive.Operate (op.Wrap w k))
 
 abbrev pub OrderIsOfTheTable : Type 0 → Type 0
 OrderIsOfTheTable World =
     (pages : ℕ) (m : Module) (host : Host World) (head : TypeId → Node TypeId) (plan : Plan) (o : Comparison) (k : Kind) (f signature : ℕ) → IsThere m f (I64 ∷ I64 ∷ []) (of_two signature (order 2 5 o k))
-    → (deep room : ℕ) → 2 ≤ deep → 24 ≤ room → KeepsLine head plan host pages (enter deep pages m host room) f (primitive.Operate (op.Compare o (scalar.Number k)))
+    → (deep room : ℕ) → 2 ≤ deep → 24 ≤ room → (most : ℕ) → KeepsLine head plan host most pages (enter deep pages m host room) f (primitive.Operate (op.Compare o (scalar.Number k)))
 
 abbrev pub SamenessIsOfTheTable : Type 0 → Type 0
 SamenessIsOfTheTable World =
     (pages : ℕ) (m : Module) (host : Host World) (head : TypeId → Node TypeId) (plan : Plan) (k : Kind) (f signature : ℕ) → IsThere m f (I64 ∷ I64 ∷ []) (of_two signature (sameness 2 5))
-    → (deep room : ℕ) → 2 ≤ deep → 24 ≤ room → KeepsLine head plan host pages (enter deep pages m host room) f (primitive.Operate (op.Same (scalar.Number k)))
+    → (deep room : ℕ) → 2 ≤ deep → 24 ≤ room → (most : ℕ) → KeepsLine head plan host most pages (enter deep pages m host room) f (primitive.Operate (op.Same (scalar.Number k)))
 
 -- The code of each routine but that of a power may stand in other functions: it has so many arguments, and so many locals with them.
 abbrev pub goes : (arguments count : ℕ) → Code → Bool
