@@ -1,0 +1,17 @@
+pub mod Frames
+pub mod Control
+pub mod Short
+pub mod Operands
+pub mod Ready
+pub mod Light
+pub mod Lets
+pub mod Ifs
+pub mod Opened
+pub mod Matching
+pub mod Variants
+pub mod Calls
+pub mod Filling
+pub mod Groups
+pub mod Makes
+pub mod Routines
+pub mod Followed
