@@ -1,0 +1,4 @@
+pub mod Stands
+pub mod Runs
+pub mod Bodies
+pub mod Laws

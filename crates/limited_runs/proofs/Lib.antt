@@ -1,0 +1,5 @@
+pub mod RunsOut
+pub mod Beside
+pub mod Ends
+pub mod Exhausted
+pub mod Shows
