@@ -1,0 +1,4 @@
+pub mod Links
+pub mod Codes
+pub mod Treated
+pub mod Laws

@@ -1,0 +1,4 @@
+pub mod Sequences
+pub mod Forms
+pub mod AllKinds
+pub mod AllCodes

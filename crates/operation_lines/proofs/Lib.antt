@@ -1,0 +1,14 @@
+pub mod Placed
+pub mod Work
+pub mod Inline
+pub mod Values
+pub mod Numbers
+pub mod Arithmetic
+pub mod Truths
+pub mod Equalities
+pub mod Blocks
+pub mod Cells
+pub mod Written
+pub mod Ends
+pub mod Gathered
+pub mod Heaped
