@@ -1,0 +1,5 @@
+pub mod Lists
+pub mod Ready
+pub mod Fitting
+pub mod Placed
+pub mod Standing

@@ -1,0 +1,2 @@
+//! The low module of a program of structured code.
+#![tactic(auto)]

@@ -1,0 +1,4 @@
+pub mod Placed
+pub mod Modules
+pub mod Spelling
+pub mod Sizes
