@@ -1,0 +1,15 @@
+pub mod Placed
+pub mod Sizes
+pub mod Replied
+pub mod Pieced
+pub mod Sent
+pub mod Matched
+pub mod Consumed
+pub mod Stored
+pub mod Taken
+pub mod Named
+pub mod Argued
+pub mod Heard
+pub mod Flats
+pub mod ArgumentFlats
+pub mod Formed

@@ -1,0 +1,11 @@
+pub mod Bytes
+pub mod Scanned
+pub mod Numbers
+pub mod Words
+pub mod Took
+pub mod Fixed
+pub mod Kept
+pub mod Spelled
+pub mod Wrote
+pub mod Sent
+pub mod Formed

@@ -1,0 +1,2 @@
+pub mod TableCode
+pub mod Rows
