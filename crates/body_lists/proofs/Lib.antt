@@ -1,0 +1,4 @@
+pub mod Sizes
+pub mod Opening
+pub mod Emitting
+pub mod Views

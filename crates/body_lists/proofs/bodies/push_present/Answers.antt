@@ -1,0 +1,27 @@
+use Rattle.std.proofs.Common.{◌≡◌, ◌∙◌, ◌++◌, ◌∷◌, [], ◌+◌, ◌-◌, ◌*◌, suc, ap, sym, drop, pos, Some, length, map, take, subst, arith, List, ℕ, refl}
+use Rattle.core_ir.specs.declared.code.Operand.{Operand}
+use Rattle.low_ir.specs.Flat.{flat}
+use Rattle.low_ir.specs.Tree.{Code}
+use Rattle.flat_emission.specs.Emission as emission
+use Rattle.body_lists.specs.Known.{here_of, link_of, plan_of}
+use Rattle.wasm_tree.specs.declared.types.ValueType.TheVariants.{I64}
+use Rattle.wasm_tree.specs.declared.op.Comparison.TheVariants.{Eq}
+use Rattle.wasm_tree.specs.declared.op.Conversion.TheVariants.{Wrap}
+use Rattle.wasm_tree.specs.declared.op.LoadKind.TheVariants as load
+use Rattle.core_ir.specs.declared.primitive.Constructor.TheVariants.{Present, Tagged}
+use Rattle.mo_types.specs.Label.{label_id}
+use Rattle.low_ir.specs.declared.op.LowOp.TheVariants as op
+use Rattle.low_ir.specs.declared.op.Operand.TheVariants.{Local, Long}
+use Rattle.low_ir.specs.declared.op.Operation.TheVariants.{Compare, Convert, IsZero, Load}
+use Rattle.low_ir.specs.Tree.{If, Set}
+use Rattle.body_lists.proofs.Emitting.{behind, readied_is}
+use Rattle.body_lists.proofs.bodies.push_present.Goals as goal
+
+pub returns : goal.returns
+returns c = λ t y n k.
+    let x = c.args.operand.now in
+    let opening : Code = Set (emission.first_word (here_of c.args.here)) (Convert Wrap (emission.place (plan_of c.args.known.now) (link_of c.args.known.now) (here_of c.args.here) 0 c.args.operand.now)) (Set (emission.slot t) (Load load.I64 (Local (emission.first_word (here_of c.args.here))) 0) y) in
+    let chosen : Code = Set (emission.first_word (here_of c.args.here)) (IsZero I64 (emission.place (plan_of c.args.known.now) (link_of c.args.known.now) (here_of c.args.here) 0 c.args.operand.now)) (If (Local (emission.first_word (here_of c.args.here))) n opening k) in
+    behind c.push_absent.new.list c.push_fetch.new.list (op.Set (emission.first_word (here_of c.args.here)) (IsZero I64 (emission.place (plan_of c.args.known.now) (link_of c.args.known.now) (here_of c.args.here) 0 c.args.operand.now)) ∷ op.If (Local (emission.first_word (here_of c.args.here))) ∷ []) (flat n ++ op.Else ∷ (flat opening ++ op.End ∷ flat k)) c.in_ok-push_absent.ensures
+    ∙ c.in_ok-push_fetch.ensures chosen
+    ∙ ap (λ z. c.args.list.now ++ flat z) (sym (readied_is (plan_of c.args.known.now) (link_of c.args.known.now) (here_of c.args.here) (x ∷ []) chosen))

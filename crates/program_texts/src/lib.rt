@@ -1,0 +1,8 @@
+//! The texts of a program.
+#![tactic(auto)]
+
+mod code;
+mod operands;
+mod program;
+
+pub use program::texts_of;
