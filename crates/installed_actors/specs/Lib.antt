@@ -1,0 +1,4 @@
+pub mod Contents
+pub mod Entry
+pub mod Unset
+pub mod Laws

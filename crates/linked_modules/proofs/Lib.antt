@@ -1,0 +1,4 @@
+pub mod Prefixed
+pub mod Routines
+pub mod Linking
+pub mod First
